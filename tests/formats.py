@@ -22,6 +22,14 @@ class Fault(Exception):
         self.status, self.text = status, text
 
 
+def named(line, capture, script):
+    """The line of `beamer-connections` for a fault that `beamer` tells by this line. It has the file's name in place of its kind."""
+    text = line.removeprefix("beamer: ")
+    kind, _, said = text.partition(" ")
+    name = capture if kind.startswith("capture") or said.strip() in ("packets", "capture-octets") else script
+    return f"beamer-connections: {name}: {text if kind == 'limit' else said}"
+
+
 # CAPTURES
 
 # The status and the line of each fault of a capture; its numbers follow its name.

@@ -41,31 +41,37 @@ class Connection:
         self.first = self.last = number, packet.moment
         self.server = self.broken = self.forward = self.fault = self.why = None
         self.tally = Counter()
-        self.reset = self.fin = self.data = self.closed = self.losing = False
+        self.gone = self.fin = self.data = self.closed = self.losing = False
 
     def see(self, number, packet):
-        """Adds a record. Returns whether it carries the connection's own RST or comes after it, and whether data is lost if it isn't
-        processed."""
-        if packet.opening():
-            self.reset = self.fin = False
-        self.reset = self.reset or bool(packet.flags & RST)
-        self.fin = self.fin or bool(packet.flags & FIN)
-        risky, self.data = packet.data > 0 or self.data, packet.data > 0
+        """Adds a record. Returns whether it concerns more than the farewell, so that data is lost if it isn't processed."""
+        self.fin = not packet.opening() and (self.fin or bool(packet.flags & FIN))
+        in_the_middle = not self.fin and not packet.opening()
+        risky, self.data = packet.data > 0 or self.data or in_the_middle, packet.data > 0
         self.last = number, packet.moment
-        return self.reset, risky
+        return risky
 
     def refused(self):
         return self.fault if self.server is None else None
 
     def end(self):
-        return "close" if self.closed else "rst" if self.reset else "fin" if self.fin else "open"
+        return "close" if self.closed else "rst" if self.gone else "fin" if self.fin else "open"
 
     def is_whole(self):
         return self.server is not None and not self.broken
 
-    def take(self, e, wait, over, risky):
+    def go_on(self, e, packet):
+        """Notes whether an arrival ends the connection or opens it anew. Returns whether it carries RST or comes after the end."""
+        resets, opens = bool(packet.flags & RST), packet.opening()
+        over = resets or self.gone and not opens
+        ends = e["verdict"] == "process ended" or e["verdict"].startswith("drop")
+        self.gone = resets and ends or self.gone and not opens
+        return over
+
+    def take(self, e, wait, packet, risky):
         """Adds an arrival; `wait` is how long ago the server to which it may be forwarded lost the bucket. Returns whether it is a break
         that counts."""
+        over = self.go_on(e, packet)
         verb = e["verdict"].split()[0]
         stray = verb == "process" and e["because"] is not None
         self.tally[verb] += 1
@@ -89,13 +95,13 @@ class Table:
 
     def __init__(self, fleet, packets, events):
         self.fleet, self.packets, self.events = fleet, packets, events
-        self.found, self.marks, self.most, self.late, self.causes = {}, {}, Counter(), [], Counter()
+        self.found, self.risky, self.most, self.late, self.causes = {}, {}, Counter(), [], Counter()
         # the longest needs of changes, of third changes and of servers that retired: how long, and for which flow
         self.changes, self.thirds, self.retired = {}, {}, {}
         for number, packet in enumerate(packets, 1):
             if packet.steerable:
                 connection = self.found.setdefault(packet.flow, Connection(packet.flow, number, packet))
-                self.marks[number] = connection.see(number, packet)
+                self.risky[number] = connection.see(number, packet)
         self.connections = list(self.found.values())
         self.play()
 
@@ -134,7 +140,7 @@ class Table:
     def arrive(self, e, flow, version):
         beyond = onward(self.fleet.entry(version, self.fleet.bucket(flow)), e["hop"])
         wait = max(0, e["clock"] - beyond[1]) if beyond else None
-        if self.found[flow].take(e, wait, *self.marks[e["packet"]]):
+        if self.found[flow].take(e, wait, self.packets[e["packet"] - 1], self.risky[e["packet"]]):
             self.causes[e["because"]] += 1
             self.late += [wait] if e["because"] == "chain-late" else []
 
@@ -143,6 +149,13 @@ class Table:
         bucket = self.fleet.bucket(flow)
         return [number for number, (_, _, moves) in enumerate(self.fleet.changes[:version], 1) if bucket in moves]
 
+    def away_since(self, flow, server, version):
+        """The number of the last change up to this version that took the flow's bucket from the server, or None if there is none or the
+        version gives it the bucket."""
+        at = [self.fleet.server(before, self.fleet.bucket(flow)) for before in range(version + 1)]
+        left = [number for number in self.moves_of(flow, version) if at[number - 1] == server]
+        return left[-1] if left and at[version] != server else None
+
     def need(self, e, flow, version, owner, kept, retired_at):
         """What an arrival needs: the server that a change took its bucket from, a later third change, or a server that has retired."""
         verb = e["verdict"].split()[0]
@@ -150,9 +163,10 @@ class Table:
             number = self.moves_of(flow, version)[-1 - HOPS[e["hop"]]]
             self.longest(self.changes, number, e["clock"] - self.fleet.changes[number - 1][0], e, flow)
         if e["because"] == "moved-thrice":
-            number = self.moves_of(flow, version)[len(self.moves_of(flow, owner[2])) + 2]
-            late = max(0, self.found[flow].last[1] - self.fleet.changes[number - 1][0]) + 1
-            self.longest(self.thirds, number, late, e, flow)
+            first = self.away_since(flow, owner[1], version)
+            for number in [number for number in self.moves_of(flow, version) if first and number >= first][2:3]:
+                late = max(0, self.found[flow].last[1] - self.fleet.changes[number - 1][0]) + 1
+                self.longest(self.thirds, number, late, e, flow)
         if e["because"] == "not-held" and owner and kept[owner[1]].get(flow) == owner[0]:
             at = retired_at.get((owner[1], self.fleet.shard(flow)))
             if at is not None:
@@ -169,10 +183,12 @@ class Table:
             c.why = ("by-the-change" if other.is_whole() else "anyway") if c.broken else None
 
     def left_open(self):
-        """For each change, the connections that it moves and that are open at the end."""
-        left = [c for c in self.connections if c.is_whole() and c.end() == "open"]
-        for moment, _, moves in self.fleet.changes:
-            yield [c for c in left if c.first[1] <= moment and self.fleet.bucket(c.flow) in moves]
+        """For each change, the connections that are open at the end, and whose server it took the bucket from for good."""
+        left = defaultdict(list)
+        for c in self.connections:
+            if c.is_whole() and c.end() == "open":
+                left[self.away_since(c.flow, c.server, len(self.fleet.changes))].append(c)
+        return [left[number] for number in range(1, len(self.fleet.changes) + 1)]
 
     def copies(self):
         """How many records look like copies, of how many that may."""
@@ -244,14 +260,14 @@ def line_of(fleet, c, began):
 
 
 def answer_line(table):
-    connections, left = table.connections, {id(c) for each in table.left_open() for c in each}
+    connections = table.connections
     counts = {
         "connections": len(connections),
         "broken": sum(c.broken is not None for c in connections),
         "by-the-change": sum(c.why == "by-the-change" for c in connections),
         "losing-data": sum(c.losing for c in connections),
         "refused": sum(c.refused() is not None for c in connections),
-        "open-at-end": len(left),
+        "open-at-end": sum(map(len, table.left_open())),
     }
     timeout = {"timeout_s": -(-max(table.late) // SECOND)} if table.late else {}
     return " ".join(["answer", *(f"{word} {count}" for word, count in (counts | timeout).items())])
@@ -337,12 +353,12 @@ def advice_lines(table, causes, texts):
         yield f"advice copies: {copies} of {numbered} {texts['copies']}"
     if not table.connections:
         yield f"advice nothing-steered: {texts['nothing-steered']}"
-    if fleet.changes:
-        (change, _, moves), end = fleet.changes[-1], max((packet.moment for packet in packets), default=-1)
-        if end < change:
-            yield f"advice change-after-the-end: {texts['change-after-the-end']}"
-        elif moves and end < change + fleet.timeout():
-            yield f"advice timeout-after-the-end: {texts['timeout-after-the-end']}"
+    end = max((packet.moment for packet in packets), default=-1)
+    if fleet.changes and end < fleet.changes[-1][0]:
+        yield f"advice change-after-the-end: {texts['change-after-the-end']}"
+    moved = [moment for moment, _, moves in fleet.changes if moves]
+    if moved and moved[-1] <= end < moved[-1] + fleet.timeout():
+        yield f"advice timeout-after-the-end: {texts['timeout-after-the-end']}"
 
 
 def lines(table, texts, began, cut):

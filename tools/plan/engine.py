@@ -26,6 +26,15 @@ NEEDED = re.compile(r"needed change \d+ for (\S+) by (\S+)")
 OPEN_END = re.compile(r"open-at-end change \d+ connections \d+ longest-idle (\S+)")
 
 
+# What stands before a fault: the program's name, and that of a part or of a script.
+FILE = re.compile(r"beamer(?:-connections: .*?/(?:part|script)[-\w.]*)?: ")
+
+
+def faults_of(path):
+    """The file with the faults of a process whose output is in this one."""
+    return f"{path}-faults"
+
+
 class Connection:
     """What the program tells of a connection. Times are nanoseconds after the moment 0. `forward` is that of the last packet that was
     forwarded, and `wait` how long before it the bucket had left the server to which it went."""
@@ -112,7 +121,7 @@ class Replay:
 class Engine:
     """Replays the parts of a capture by scripts, as many at a time as there are processors. Several threads may ask for replays."""
 
-    # Where processes write what isn't output: as this process does.
+    # Where processes write what isn't output, if not to a file of their own.
     errors = None
 
     def __init__(self, folder, paths, progress=None):
@@ -140,12 +149,12 @@ class Engine:
         os.killpg(process.pid, signal.SIGKILL)
 
     def begun(self, words, path, source=subprocess.DEVNULL):
-        """A process that writes to this file, in a group of its own, so that what it starts ends with it."""
-        with self.lock, open(path, "xb") as file:
+        """A process that writes to this file, and its faults to another, in a group of its own, so that what it starts ends with it."""
+        with self.lock, open(path, "xb") as file, open(faults_of(path), "xb") as faults:
             if self.is_stopped:
                 raise Refusal(READ, "the replays were stopped")
             try:
-                process = subprocess.Popen(words, stdin=source, stdout=file, stderr=self.errors, process_group=0)
+                process = subprocess.Popen(words, stdin=source, stdout=file, stderr=self.errors or faults, process_group=0)
             except OSError as wrong:
                 raise Refusal(READ, f"{words[0]}: {wrong.strerror.lower()}; tools/prove builds it") from None
             self.running.add(process)
@@ -162,14 +171,14 @@ class Engine:
         with self.begun([program or self.program, *words], path) as process:
             status = process.wait()
         self.ended(process)
-        self.look_at(script, path, status)
+        self.look_at(script, faults_of(path), status)
         return path
 
     def look_at(self, script, path, status):
-        """Refuses what the program refused."""
+        """Refuses what the program refused. The last line of this file says why, with the name of a temporary file."""
         if status:
             with open(path, errors="replace") as file:
-                line = file.read(4096).strip().removeprefix("beamer: ")
+                line = FILE.sub("", file.read(65_536).strip().rpartition("\n")[2])
             told = explained_of(script, line) if status == SCRIPT else line or f"{self.program} ended with status {status}"
             raise Refusal(status if 2 <= status <= 7 else READ, told)
 

@@ -16,12 +16,12 @@ trap '[ -z "$job" ] || kill -s KILL -- "-$job"; rm -rf "$folder"' EXIT
 trap 'exit 1' HUP INT TERM
 trap '' PIPE
 base64 -d | tar xz -C "$folder" || exit
-setsid PROGRAM "$folder/part.pcap" "$folder/script.toml" < /dev/null > "$folder/told" 2> /dev/null & job=$!
+setsid PROGRAM "$folder/part.pcap" "$folder/script.toml" < /dev/null > "$folder/told" 2> "$folder/faults" & job=$!
 (while sleep 0.5 > /dev/null 2>&1; do echo . || { kill -s KILL -- "-$job"; exit; }; done) 2> /dev/null & points=$!
 wait $job
 status=$? job=
 kill $points
-cat "$folder/told"
+[ "$status" = 0 ] && cat "$folder/told" || tail -n 1 "$folder/faults"
 echo "ended $status"
 """
 ENDED = re.compile(rb"^ended (\d+)\n", re.M)

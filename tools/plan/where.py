@@ -1,9 +1,9 @@
-"""Where in a script a fault is that the programs name, and what to write instead."""
+"""Where in a script a fault is that the program names, and what to write instead."""
 import re, tomllib
 from plan.faults import SCRIPT, Refusal, of_file
 from plan.scripts import MARK
 
-FAULT = re.compile(r"(?:script(?: (?P<table>fault|command) (?P<number>\d+))?): (?P<what>.+)")
+FAULT = re.compile(r"(?:(?P<table>fault|command) (?P<number>\d+): )?(?P<what>.+)")
 KEYED = re.compile(r"(?:unknown key|missing|bad value of) (\S+)")
 # What to do about the words of a fault; the first that fits counts.
 REMEDIES = {
@@ -50,7 +50,7 @@ def line_of(text, table, number, key):
 
 
 def explained(path, text, line):
-    """A line of a program about a script: where in this text it is, and what to do."""
+    """What a program says of a script's fault: where in this text it is, and what to do."""
     read = FAULT.fullmatch(line)
     if not read:
         return f"{path}: {line}"
@@ -62,13 +62,13 @@ def explained(path, text, line):
 
 
 def explained_of(script, line):
-    """A line of a program about a script that was put together: what it means, where it is, and what to do."""
+    """What a program says of the fault of a script that was put together: what it means, where it is, and what to do."""
     path, text = script.file
-    read = re.match(r"script command (\d+): (.*)", line)
+    read = re.match(r"command (\d+): (.*)", line)
     origin = read and script.origins[int(read[1]) - 1]
     if isinstance(origin, str):
         return f"{origin}: {read[2]}; {remedy(read[2])}"
-    return explained(path or "the fleet", text, f"script command {origin}: {read[2]}" if read else line)
+    return explained(path or "the fleet", text, f"command {origin}: {read[2]}" if read else line)
 
 
 def text_of(path):

@@ -18,10 +18,10 @@ use Rattle.bm_cli.specs.Stages.{IsOutside, IsRead}
 use Rattle.bm_cli.specs.Stages.{ReadsStage, status_by}
 use Rattle.bm_cli.specs.Telling.{Tells}
 use Rattle.bm_cli.specs.Loads.{IsSummaryOf}
-use Rattle.bm_cli.specs.Lines.{usage_line}
+use Rattle.bm_cli.specs.Lines.{FaultLines, beamer_lines, usage_line}
 use Rattle.bm_cli.specs.Reading.{Holds, Octets, Reading, Reads, reading, reads_of, script_by}
 use Rattle.bm_cli.specs.Statuses.{FilesDid, SinkDid}
-use Rattle.bm_cli.proofs.Faults.{memory_line, read_line}
+use Rattle.bm_cli.proofs.Faults.{IsSilent, beamer_silent}
 use Rattle.bm_cli.proofs.Names.{adds_nothing, asks_nothing}
 use Rattle.bm_cli.proofs.Telling.{untouched, writes_nothing}
 
@@ -46,28 +46,31 @@ holds_any (Some octets) fact any = record { reads = reads_of octets; known = ref
 -- A STAGE
 
 -- a fault from outside may be answered in place of anything
-pub said_outside : (answer : Answer) (fault : StageFault) (says : Status) (text : List ℕ) → IsOutside fault →
-    IsOf (Refused fault) says text → IsSaid answer says text
-said_outside answer fault says text outside (inr none) = inl (inr none)
-said_outside answer fault says text (inl is) (inl said) = inr (said.0 ∙ is, said.1 ∙ read_line fault is)
-said_outside answer fault says text (inr is) (inl said) = inl (inr (said.0 ∙ is, said.1 ∙ memory_line fault is))
+pub said_outside : (lines : FaultLines) → IsSilent lines →
+    (answer : Answer) (fault : StageFault) (says : Status) (text : List ℕ) → IsOutside fault →
+    IsOf lines (Refused fault) says text → IsSaid lines answer says text
+said_outside lines silent answer fault says text outside (inr none) = inl (inr none)
+said_outside lines silent answer fault says text (inl is) (inl said) = inr (said.0 ∙ is, (fault, is, said.1))
+said_outside lines silent answer fault says text (inr is) (inl said) =
+    inl (inr (said.0 ∙ is, silent fault text is said.1))
 
 -- what was read is answered as what is due
-pub said_stage : (is : Stage → List ℕ → Type 0) (due r : Reading) (says : Status) (text : List ℕ) → IsRead due r →
-    IsOf (answer_for is r) says text → IsSaid (answer_for is due) says text
-said_stage is due (Ok stage) says text read said =
-    subst (λ (d : Reading). IsSaid (answer_for is d) says text) (sym read) (inl said)
-said_stage is due (Err fault) says text (inl outside) said =
-    said_outside (answer_for is due) fault says text outside said
-said_stage is due (Err fault) says text (inr read) said =
-    subst (λ (d : Reading). IsSaid (answer_for is d) says text) (sym read) (inl said)
+pub said_stage : (lines : FaultLines) → IsSilent lines → (is : Stage → List ℕ →
+    Type 0) (due r : Reading) (says : Status) (text : List ℕ) → IsRead due r →
+    IsOf lines (answer_for is r) says text → IsSaid lines (answer_for is due) says text
+said_stage lines silent is due (Ok stage) says text read said =
+    subst (λ (d : Reading). IsSaid lines (answer_for is d) says text) (sym read) (inl said)
+said_stage lines silent is due (Err fault) says text (inl outside) said =
+    said_outside lines silent (answer_for is due) fault says text outside said
+said_stage lines silent is due (Err fault) says text (inr read) said =
+    subst (λ (d : Reading). IsSaid lines (answer_for is d) says text) (sym read) (inl said)
 
 -- the status that was answered is that of what was read, or want of memory
-pub says_read : (is : Stage → List ℕ → Type 0) (r : Reading) (says : Status) (text : List ℕ) →
-    IsOf (answer_for is r) says text → says ≢ Memory → says ≡ status_by r
-says_read is r says text (inr none) memory = absurd (memory none.0)
-says_read is (Ok stage) says text (inl said) memory = said.0
-says_read is (Err fault) says text (inl said) memory = said.0
+pub says_read : (lines : FaultLines) (is : Stage → List ℕ → Type 0) (r : Reading) (says : Status) (text : List ℕ) →
+    IsOf lines (answer_for is r) says text → says ≢ Memory → says ≡ status_by r
+says_read lines is r says text (inr none) memory = absurd (memory none.0)
+says_read lines is (Ok stage) says text (inl said) memory = said.0
+says_read lines is (Err fault) says text (inl said) memory = said.0
 
 not_memory : (says : Status) → says ≡ ReadFault → says ≢ Memory
 not_memory says e = λ is. let no : ReadFault ≡ Memory = sym e ∙ is in cc
@@ -96,35 +99,39 @@ asks_unread names files says asks unread = record {
 }
 
 -- what was read of a stage was answered
-pub ends_stage : (mode : Mode) (is : Stage → List ℕ → Type 0) (names : Named) (reads : Reads) (files : FilesDid)
+pub ends_stage : (lines : FaultLines) → IsSilent lines → (mode : Mode) (is : Stage → List ℕ →
+    Type 0) (names : Named) (reads : Reads) (files : FilesDid)
     (sink : SinkDid) (r : Reading) (result : Status) → ReadsStage mode names reads files r →
-    Tells (answer_for is r) sink result → Ends (due_of_stage mode is names reads) files sink result
-ends_stage mode is names reads files sink r result read tells = record {
+    Tells lines (answer_for is r) sink result → Ends lines (due_of_stage mode is names reads) files sink result
+ends_stage lines silent mode is names reads files sink r result read tells = record {
   says = tells.says;
   text = tells.text;
-  said = said_stage is (reading mode names reads) r tells.says tells.text read.read tells.is;
+  said = said_stage lines silent is (reading mode names reads) r tells.says tells.text read.read tells.is;
   writes = tells.writes;
   asks =
       asks_as (names_after names (script_by mode reads names.script)) files (status_by r) tells.says read.asks
-      (says_read is r tells.says tells.text tells.is);
+      (says_read lines is r tells.says tells.text tells.is);
 }
 
 pub play_ends : (mode : Mode) (names : Named) (told : Octets) (files : FilesDid)
     (sink : SinkDid) (r : Reading) (result : Status) →
-    Holds told (λ reads. ReadsStage mode names reads files r) → Tells (answer_for (IsReportOf mode) r) sink result →
-    Holds told (λ reads. Ends (due_of_stage mode (IsReportOf mode) names reads) files sink result)
+    Holds told (λ reads. ReadsStage mode names reads files r) →
+    Tells beamer_lines (answer_for (IsReportOf mode) r) sink result →
+    Holds told (λ reads. Ends beamer_lines (due_of_stage mode (IsReportOf mode) names reads) files sink result)
 play_ends mode names told files sink r result read tells =
     holds_more told (λ reads. ReadsStage mode names reads files r)
-    (λ reads. Ends (due_of_stage mode (IsReportOf mode) names reads) files sink result)
-    (λ reads stage. ends_stage mode (IsReportOf mode) names reads files sink r result stage tells) read
+    (λ reads. Ends beamer_lines (due_of_stage mode (IsReportOf mode) names reads) files sink result)
+    (λ reads stage. ends_stage beamer_lines beamer_silent mode
+    (IsReportOf mode) names reads files sink r result stage tells) read
 
 -- NO FILE IS READ
 
 -- memory was refused before anything was done
-pub ends_nothing : (due : Due) (asked : Option (List Opening)) (fails : ℕ) (before : Option (List ℕ))
+pub ends_nothing : (lines : FaultLines) (due : Due) (asked : Option (List Opening)) (fails : ℕ) (before : Option
+    (List ℕ))
     (faults : ℕ) →
-    Ends due (untouched asked fails) (untouched before faults) Memory
-ends_nothing due asked fails before faults = record {
+    Ends lines due (untouched asked fails) (untouched before faults) Memory
+ends_nothing lines due asked fails before faults = record {
   says = Memory;
   text = [];
   said = inl (inr (refl, refl));
@@ -140,14 +147,14 @@ ends_nothing due asked fails before faults = record {
 }
 
 -- no status that is due says that a read failed
-abbrev pub IsUnread : Answer → Type 0
-IsUnread answer = (says : Status) (text : List ℕ) → IsDue answer says text → says ≢ ReadFault
+abbrev pub IsUnread : FaultLines → Answer → Type 0
+IsUnread lines answer = (says : Status) (text : List ℕ) → IsDue lines answer says text → says ≢ ReadFault
 
 -- an answer that asks for no file was written
-pub ends_unread : (answer : Answer) (asked : Option (List Opening)) (fails : ℕ) (sink : SinkDid)
-    (result : Status) → IsUnread answer → Tells answer sink result →
-    Ends (record { names = []; answer = answer }) (untouched asked fails) sink result
-ends_unread answer asked fails sink result not tells = record {
+pub ends_unread : (lines : FaultLines) (answer : Answer) (asked : Option (List Opening)) (fails : ℕ) (sink : SinkDid)
+    (result : Status) → IsUnread lines answer → Tells lines answer sink result →
+    Ends lines (record { names = []; answer = answer }) (untouched asked fails) sink result
+ends_unread lines answer asked fails sink result not tells = record {
   says = tells.says;
   text = tells.text;
   said = inl tells.is;
@@ -162,47 +169,49 @@ ends_unread answer asked fails sink result not tells = record {
   };
 }
   where
-    unread : IsOf answer tells.says tells.text → tells.says ≢ ReadFault
+    unread : IsOf lines answer tells.says tells.text → tells.says ≢ ReadFault
     unread (inl said) = not tells.says tells.text said
     unread (inr none) = λ e. let no : Memory ≡ ReadFault = sym none.0 ∙ e in cc
 
 -- the same, by some reads
-pub unread_ends : (answer : Answer) (told : Octets) (asked : Option (List Opening)) (fails : ℕ) (sink : SinkDid)
-    (result : Status) → IsUnread answer → Tells answer sink result →
-    Holds told (λ reads. Ends (record { names = []; answer = answer }) (untouched asked fails) sink result)
-unread_ends answer told asked fails sink result not tells =
-    holds_any told (λ reads. Ends (record { names = []; answer = answer }) (untouched asked fails) sink result)
-    (λ reads. ends_unread answer asked fails sink result not tells)
+pub unread_ends : (lines : FaultLines) (answer : Answer) (told : Octets) (asked : Option (List Opening)) (fails : ℕ)
+    (sink : SinkDid)
+    (result : Status) → IsUnread lines answer → Tells lines answer sink result →
+    Holds told (λ reads. Ends lines (record { names = []; answer = answer }) (untouched asked fails) sink result)
+unread_ends lines answer told asked fails sink result not tells =
+    holds_any told (λ reads. Ends lines (record { names = []; answer = answer }) (untouched asked fails) sink result)
+    (λ reads. ends_unread lines answer asked fails sink result not tells)
 
 -- THE WORDS
 
 -- what the words ask for was answered
 pub words_end : (form : Option Asked) (words : Option Asked) (told : Octets) (files : FilesDid)
     (sink : SinkDid) (result : Status) → form ≡ words →
-    Holds told (λ reads. Ends (due form reads) files sink result) →
-    Holds told (λ reads. Ends (due words reads) files sink result)
+    Holds told (λ reads. Ends beamer_lines (due form reads) files sink result) →
+    Holds told (λ reads. Ends beamer_lines (due words reads) files sink result)
 words_end form words told files sink result same ends =
-    subst (λ f. Holds told (λ reads. Ends (due f reads) files sink result)) same ends
+    subst (λ f. Holds told (λ reads. Ends beamer_lines (due f reads) files sink result)) same ends
 
 pub usage_ends : (words : Option Asked) (told : Octets) (asked : Option (List Opening)) (fails : ℕ)
-    (sink : SinkDid) (result : Status) → None ≡ words → Tells (Misused usage_line) sink result →
-    Holds told (λ reads. Ends (due words reads) (untouched asked fails) sink result)
+    (sink : SinkDid) (result : Status) → None ≡ words → Tells beamer_lines (Misused usage_line) sink result →
+    Holds told (λ reads. Ends beamer_lines (due words reads) (untouched asked fails) sink result)
 usage_ends words told asked fails sink result none tells =
     words_end None words told (untouched asked fails) sink result none
-    (unread_ends (Misused usage_line) told asked fails sink result
+    (unread_ends beamer_lines (Misused usage_line) told asked fails sink result
     (λ says text is e. let no : ReadFault ≡ Usage = sym e ∙ is.0 in cc) tells)
 
 -- the line of a load was answered
 pub load_ends : (n : ℕ) (told : Octets) (asked : Option (List Opening)) (fails : ℕ) (sink : SinkDid)
-    (result : Status) → Tells (Shown (IsSummaryOf n)) sink result →
-    Holds told (λ reads. Ends (due (Some (Load n)) reads) (untouched asked fails) sink result)
+    (result : Status) → Tells beamer_lines (Shown (IsSummaryOf n)) sink result →
+    Holds told (λ reads. Ends beamer_lines (due (Some (Load n)) reads) (untouched asked fails) sink result)
 load_ends n told asked fails sink result tells =
-    unread_ends (Shown (IsSummaryOf n)) told asked fails sink result
+    unread_ends beamer_lines (Shown (IsSummaryOf n)) told asked fails sink result
     (λ says text is e. let no : ReadFault ≡ Done = sym e ∙ is.0 in cc) tells
 
 pub memory_ends : (words : Option Asked) (told : Octets) (asked : Option (List Opening)) (fails : ℕ)
     (before : Option (List ℕ)) (faults : ℕ) →
-    Holds told (λ reads. Ends (due words reads) (untouched asked fails) (untouched before faults) Memory)
+    Holds told (λ reads. Ends beamer_lines (due words reads) (untouched asked fails) (untouched before faults) Memory)
 memory_ends words told asked fails before faults =
-    holds_any told (λ reads. Ends (due words reads) (untouched asked fails) (untouched before faults) Memory)
-    (λ reads. ends_nothing (due words reads) asked fails before faults)
+    holds_any told (λ reads. Ends beamer_lines (due words reads) (untouched asked fails)
+    (untouched before faults) Memory)
+    (λ reads. ends_nothing beamer_lines (due words reads) asked fails before faults)

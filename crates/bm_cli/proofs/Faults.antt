@@ -1,5 +1,5 @@
 -- Faults, their statuses and their lines.
-use Rattle.std.proofs.Common.{◌≡◌, ◌≢◌, ◌⊎◌, ◌==◌, inl, inr, false, [], sym, ap, ◌∙◌, refl}
+use Rattle.std.proofs.Common.{◌≡◌, ◌≢◌, ◌⊎◌, ◌==◌, inl, inr, false, ℕ, List, [], sym, ap, ◌∙◌, refl}
 use Rattle.std.proofs.lemmas.Bool.{eqb-false}
 use Rattle.bm_pcap.specs.declared.fault.CaptureFault.{CaptureFault}
 use Rattle.bm_pcap.specs.declared.fault.CaptureFault.TheVariants.{NotACapture, BadVersion, BadLink, BadBlock}
@@ -19,8 +19,8 @@ use Rattle.bm_cli.specs.declared.fault.StageFault.TheVariants.{Capture as OfCapt
 use Rattle.bm_cli.specs.declared.status.Status.{Status}
 use Rattle.bm_cli.specs.declared.status.Status.TheVariants.{BadCapture, BadScript, Done, Memory, ReadFault, Usage}
 use Rattle.bm_cli.specs.declared.status.Status.TheVariants.{Denied, Exceeded, Limit, WriteFault}
-use Rattle.bm_cli.specs.Lines.{capture_line, capture_status, fault_line, fault_status, refusal_status, script_line}
-use Rattle.bm_cli.specs.Lines.{script_status}
+use Rattle.bm_cli.specs.Lines.{FaultLines, beamer_lines, capture_line, capture_status, fault_line, fault_status}
+use Rattle.bm_cli.specs.Lines.{refusal_status, script_line, script_status}
 use Rattle.bm_cli.specs.Statuses.{code_of}
 
 -- FAULTS AND THEIR STATUSES
@@ -129,27 +129,6 @@ script_reads (Refused n refusal) =
 script_reads (Rack n refusal) = apart BadScript ReadFault refl
 script_reads ScriptMemory = apart Memory ReadFault refl
 
-capture_read_line : (fault : CaptureFault) → capture_status fault ≡ ReadFault → capture_line fault ≡ fault_line Files
-capture_read_line NotACapture e = absurd (apart BadCapture ReadFault refl e)
-capture_read_line BadVersion e = absurd (apart BadCapture ReadFault refl e)
-capture_read_line (BadLink link) e = absurd (apart BadCapture ReadFault refl e)
-capture_read_line (BadBlock block) e = absurd (apart BadCapture ReadFault refl e)
-capture_read_line SourceFault e = refl
-capture_read_line TooLarge e = absurd (apart Limit ReadFault refl e)
-capture_read_line (BadLength number n) e = absurd (apart BadCapture ReadFault refl e)
-capture_read_line TooManyPackets e = absurd (apart Limit ReadFault refl e)
-capture_read_line NoMemory e = absurd (apart Memory ReadFault refl e)
-
--- the line of a read that failed
-pub read_line : (fault : StageFault) → fault_status fault ≡ ReadFault → fault_line fault ≡ fault_line Files
-read_line Files e = refl
-read_line LongScript e = absurd (apart Limit ReadFault refl e)
-read_line LongTrace e = absurd (apart Limit ReadFault refl e)
-read_line Seats e = absurd (apart Limit ReadFault refl e)
-read_line (OfScript fault) e = absurd (script_reads fault e)
-read_line (OfCapture fault) e = capture_read_line fault e
-read_line WantsMemory e = absurd (apart Memory ReadFault refl e)
-
 script_no_line : (fault : ScriptFault) → script_status fault ≡ Memory → script_line fault ≡ []
 script_no_line NotToml e = absurd (apart BadScript Memory refl e)
 script_no_line (Missing place key) e = absurd (apart BadScript Memory refl e)
@@ -180,6 +159,13 @@ memory_line Seats e = absurd (apart Limit Memory refl e)
 memory_line (OfScript fault) e = script_no_line fault e
 memory_line (OfCapture fault) e = capture_no_line fault e
 memory_line WantsMemory e = refl
+
+-- nothing is told where memory was refused
+abbrev pub IsSilent : FaultLines → Type 0
+IsSilent lines = (fault : StageFault) (text : List ℕ) → fault_status fault ≡ Memory → lines fault text → text ≡ []
+
+pub beamer_silent : IsSilent beamer_lines
+beamer_silent fault text e is = is ∙ memory_line fault e
 
 -- no fault of a capture is one of the script
 pub capture_no_script : (fault : CaptureFault) → capture_status fault ≢ BadScript

@@ -6,7 +6,7 @@ use Rattle.bm_cli.specs.declared.status.Status.TheVariants.{BadScript, Exceeded,
 use Rattle.bm_cli.specs.Beamer.{beamer}
 use Rattle.bm_cli.specs.Dues.{IsDue, due, names_after}
 use Rattle.bm_cli.specs.Headline.{IsReportOf}
-use Rattle.bm_cli.specs.Lines.{usage_line}
+use Rattle.bm_cli.specs.Lines.{beamer_lines, usage_line}
 use Rattle.bm_cli.specs.Reading.{Reads, reading, script_by}
 use Rattle.bm_cli.specs.Streams.{AreStreams}
 use Rattle.bm_cli.specs.Top.{AsksNone, scripts_in}
@@ -16,20 +16,22 @@ use Rattle.bm_cli.proofs.Traces.{check_exceeded, check_names, check_open, check_
 use Rattle.bm_cli.proofs.Laws.{ByForm, due_below, stage_exceeded, stage_names, stage_usage}
 
 -- the usage line is due for the words of no form alone
-usage_form : (form : Option Asked) (reads : Reads) (text : List ℕ) → IsDue (due form reads).answer Usage text →
+usage_form : (form : Option Asked) (reads : Reads) (text : List ℕ) →
+    IsDue beamer_lines (due form reads).answer Usage text →
     form ≡ None
 usage_form None reads text is = refl
 usage_form (Some (Replay names)) reads text is =
-    absurd (stage_usage (IsReportOf by_replay) (reading by_replay names reads) text is)
+    absurd (stage_usage beamer_lines (IsReportOf by_replay) (reading by_replay names reads) text is)
 usage_form (Some (Run capture script)) reads text is =
-    absurd (stage_usage (IsReportOf by_run)
+    absurd (stage_usage beamer_lines (IsReportOf by_run)
     (reading by_run (record { capture = capture; script = Some script }) reads) text is)
 usage_form (Some (Streams names)) reads text is =
-    absurd (stage_usage (AreStreams names reads) (reading by_replay names reads) text is)
+    absurd (stage_usage beamer_lines (AreStreams names reads) (reading by_replay names reads) text is)
 usage_form (Some (Check trace capture script)) reads text is = absurd (check_usage trace capture script reads text is)
 usage_form (Some (Load n)) reads text is = absurd (let no = is.0 in cc)
 
-usage_text : (form : Option Asked) (reads : Reads) (text : List ℕ) → IsDue (due form reads).answer Usage text →
+usage_text : (form : Option Asked) (reads : Reads) (text : List ℕ) →
+    IsDue beamer_lines (due form reads).answer Usage text →
     text ≡ usage_line
 usage_text None reads text is = is.1
 usage_text (Some asked) reads text is =
@@ -41,29 +43,31 @@ named_form None reads opens = absurd (opens refl)
 named_form (Some asked) reads opens = refl
 
 -- the script's name alone is due where a bad script is
-script_form : (form : Option Asked) (reads : Reads) (text : List ℕ) → IsDue (due form reads).answer BadScript text →
+script_form : (form : Option Asked) (reads : Reads) (text : List ℕ) →
+    IsDue beamer_lines (due form reads).answer BadScript text →
     (due form reads).names ≡ scripts_in form
 script_form None reads text is = absurd (let no = is.0 in cc)
 script_form (Some (Replay names)) reads text is =
-    stage_names (IsReportOf by_replay) names reads (script_by by_replay reads names.script) text is
+    stage_names beamer_lines (IsReportOf by_replay) names reads (script_by by_replay reads names.script) text is
 script_form (Some (Run capture script)) reads text is =
-    stage_names (IsReportOf by_run) (record { capture = capture; script = Some script }) reads
+    stage_names beamer_lines (IsReportOf by_run) (record { capture = capture; script = Some script }) reads
     (script_by by_run reads (Some script)) text is
 script_form (Some (Streams names)) reads text is =
-    stage_names (AreStreams names reads) names reads (script_by by_replay reads names.script) text is
+    stage_names beamer_lines (AreStreams names reads) names reads (script_by by_replay reads names.script) text is
 script_form (Some (Check trace capture script)) reads text is = check_names trace capture script reads text is
 script_form (Some (Load n)) reads text is = absurd (let no = is.0 in cc)
 
 -- no form asks about more than a script allows
-exceeded_form : (form : Option Asked) (reads : Reads) (text : List ℕ) → IsDue (due form reads).answer Exceeded text → ⊥
+exceeded_form : (form : Option Asked) (reads : Reads) (text : List ℕ) →
+    IsDue beamer_lines (due form reads).answer Exceeded text → ⊥
 exceeded_form None reads text is = let no = is.0 in cc
 exceeded_form (Some (Replay names)) reads text is =
-    stage_exceeded (IsReportOf by_replay) (reading by_replay names reads) text is
+    stage_exceeded beamer_lines (IsReportOf by_replay) (reading by_replay names reads) text is
 exceeded_form (Some (Run capture script)) reads text is =
-    stage_exceeded (IsReportOf by_run)
+    stage_exceeded beamer_lines (IsReportOf by_run)
     (reading by_run (record { capture = capture; script = Some script }) reads) text is
 exceeded_form (Some (Streams names)) reads text is =
-    stage_exceeded (AreStreams names reads) (reading by_replay names reads) text is
+    stage_exceeded beamer_lines (AreStreams names reads) (reading by_replay names reads) text is
 exceeded_form (Some (Check trace capture script)) reads text is = check_exceeded trace capture script reads text is
 exceeded_form (Some (Load n)) reads text is = let no = is.0 in cc
 
@@ -101,5 +105,5 @@ by_form form = record {
   named = named_form form;
   script = script_form form;
   most = omega arith;
-  within = λ reads says text is. due_below (due form reads).answer (exceeded_form form reads) says text is;
+  within = λ reads says text is. due_below beamer_lines (due form reads).answer (exceeded_form form reads) says text is;
 }

@@ -9,13 +9,14 @@ use Rattle.bm_cli.specs.declared.status.Status.TheVariants.{Memory, ReadFault}
 use Rattle.bm_cli.specs.Dues.{Answer, answer_by, due_of_script}
 use Rattle.bm_cli.specs.Ends.{AsksFor, Ends, IsOf, IsSaid}
 use Rattle.bm_cli.specs.Inside.Scripts.{ReadsScript}
-use Rattle.bm_cli.specs.Lines.{fault_status}
+use Rattle.bm_cli.specs.Lines.{FaultLines, fault_status}
 use Rattle.bm_cli.specs.Names.{AsksAll, AsksPrefix}
 use Rattle.bm_cli.specs.Reading.{Holds, Octets, reads_of}
 use Rattle.bm_cli.specs.Stages.{IsOutside, IsRead, ReadsNamed, status_by}
 use Rattle.bm_cli.specs.Statuses.{FilesDid, SinkDid}
 use Rattle.bm_cli.specs.Telling.{Tells}
 use Rattle.bm_cli.proofs.Ending.{IsUnread, asks_as, asks_unread, holds_more, nothing, said_outside}
+use Rattle.bm_cli.proofs.Faults.{IsSilent}
 
 -- WHAT WAS READ
 
@@ -76,39 +77,42 @@ named_read told name held files r read part all cause kept =
 
 -- HOW THE CALL ENDS
 
-said_script : (of : Script → Answer) (due r : Result Script StageFault) (says : Status) (text : List ℕ) →
-    IsRead due r → IsOf (answer_by of r) says text → IsSaid (answer_by of due) says text
-said_script of due (Ok script) says text read said =
-    subst (λ (d : Result Script StageFault). IsSaid (answer_by of d) says text) (sym read) (inl said)
-said_script of due (Err fault) says text (inl outside) said =
-    said_outside (answer_by of due) fault says text outside said
-said_script of due (Err fault) says text (inr read) said =
-    subst (λ (d : Result Script StageFault). IsSaid (answer_by of d) says text) (sym read) (inl said)
+said_script : (lines : FaultLines) → IsSilent lines → (of : Script →
+    Answer) (due r : Result Script StageFault) (says : Status) (text : List ℕ) →
+    IsRead due r → IsOf lines (answer_by of r) says text → IsSaid lines (answer_by of due) says text
+said_script lines silent of due (Ok script) says text read said =
+    subst (λ (d : Result Script StageFault). IsSaid lines (answer_by of d) says text) (sym read) (inl said)
+said_script lines silent of due (Err fault) says text (inl outside) said =
+    said_outside lines silent (answer_by of due) fault says text outside said
+said_script lines silent of due (Err fault) says text (inr read) said =
+    subst (λ (d : Result Script StageFault). IsSaid lines (answer_by of d) says text) (sym read) (inl said)
 
-asks_script : (of : Script → Answer) → ((script : Script) → IsUnread (of script)) → (r : Result Script StageFault)
+asks_script : (lines : FaultLines) (of : Script → Answer) → ((script : Script) → IsUnread lines (of script)) →
+    (r : Result Script StageFault)
     (names : List (List ℕ)) (files : FilesDid) (says : Status) (text : List ℕ) → AsksFor names (status_by r) files →
-    IsOf (answer_by of r) says text → AsksFor names says files
-asks_script of not (Ok script) names files says text asks (inl due) =
+    IsOf lines (answer_by of r) says text → AsksFor names says files
+asks_script lines of not (Ok script) names files says text asks (inl due) =
     asks_unread names files says asks (not script says text due)
-asks_script of not (Ok script) names files says text asks (inr none) =
+asks_script lines of not (Ok script) names files says text asks (inr none) =
     asks_unread names files says asks (λ e. let no : Memory ≡ ReadFault = sym none.0 ∙ e in cc)
-asks_script of not (Err fault) names files says text asks (inl due) =
+asks_script lines of not (Err fault) names files says text asks (inl due) =
     asks_as names files (fault_status fault) says asks (λ memory. due.0)
-asks_script of not (Err fault) names files says text asks (inr none) =
+asks_script lines of not (Err fault) names files says text asks (inr none) =
     asks_as names files (fault_status fault) says asks (λ memory. absurd (memory none.0))
 
 -- what was read of a script was answered
-pub script_ends : (of : Script → Answer) → ((script : Script) → IsUnread (of script)) → (name : List ℕ)
+pub script_ends : (lines : FaultLines) → IsSilent lines → (of : Script → Answer) → ((script : Script) →
+    IsUnread lines (of script)) → (name : List ℕ)
     (told : Octets) (files : FilesDid) (sink : SinkDid) (r : Result Script StageFault) (result : Status) →
-    Holds told (λ reads. ReadsNamed name reads files r) → Tells (answer_by of r) sink result →
-    Holds told (λ reads. Ends (due_of_script of name reads) files sink result)
-script_ends of not name told files sink r result read tells =
+    Holds told (λ reads. ReadsNamed name reads files r) → Tells lines (answer_by of r) sink result →
+    Holds told (λ reads. Ends lines (due_of_script of name reads) files sink result)
+script_ends lines silent of not name told files sink r result read tells =
     holds_more told (λ reads. ReadsNamed name reads files r)
-    (λ reads. Ends (due_of_script of name reads) files sink result)
+    (λ reads. Ends lines (due_of_script of name reads) files sink result)
     (λ reads h. record {
       says = tells.says;
       text = tells.text;
-      said = said_script of (reads.script name) r tells.says tells.text h.read tells.is;
+      said = said_script lines silent of (reads.script name) r tells.says tells.text h.read tells.is;
       writes = tells.writes;
-      asks = asks_script of not r (name ∷ []) files tells.says tells.text h.asks tells.is;
+      asks = asks_script lines of not r (name ∷ []) files tells.says tells.text h.asks tells.is;
     }) read

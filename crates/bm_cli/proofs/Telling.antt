@@ -1,5 +1,6 @@
 -- An answer that was written.
-use Rattle.std.proofs.Common.{inl, inr, ◌≡◌, ℕ, ◌<◌, List, [], Option, refl, arith, ap, length, length-append, reverse, sym}
+use Rattle.std.proofs.Common.{inl, inr, ◌≡◌, ℕ, ◌<◌, List, [], Option, refl, arith, ap, length, length-append}
+use Rattle.std.proofs.Common.{reverse, sym}
 use Rattle.bm_base.specs.declared.fate.Fate.{Fate}
 use Rattle.bm_core.specs.declared.events.History.{History}
 use Rattle.bm_core.specs.declared.events.Stage.{Stage}
@@ -21,6 +22,7 @@ use Rattle.bm_cli.specs.declared.status.Status.TheVariants.{Done, Memory}
 use Rattle.bm_cli.specs.Checks.{IsCheckOf}
 use Rattle.bm_cli.specs.Dues.{Answer, IsDue, Shown}
 use Rattle.bm_cli.specs.Headline.{IsMadeBy, IsReportOf}
+use Rattle.bm_cli.specs.Lines.{FaultLines, beamer_lines}
 use Rattle.bm_cli.specs.Telling.{Tells}
 use Rattle.bm_cli.specs.Statuses.{Did, Writes, SinkDid}
 use Rattle.bm_cli.proofs.Statuses.{appends_nothing}
@@ -30,9 +32,10 @@ use Rattle.bm_cli.proofs.Wider.{is_run}
 abbrev pub untouched : {A : Type 0} → Option A → ℕ → Did A
 untouched before faults = record { before = before; now = before; faults = faults; later = faults }
 
-pub tells_due : (answer : Answer) (says : Status) (text : List ℕ) (sink : SinkDid) (result : Status) →
-    IsDue answer says text → Writes says text sink result → Tells answer sink result
-tells_due answer says text sink result is writes =
+pub tells_due : (lines : FaultLines) (answer : Answer) (says : Status) (text : List ℕ) (sink : SinkDid)
+    (result : Status) →
+    IsDue lines answer says text → Writes says text sink result → Tells lines answer sink result
+tells_due lines answer says text sink result is writes =
     record { says = says; text = text; is = inl is; writes = writes }
 
 some_text : (h : History) → 0 < length (text h)
@@ -78,9 +81,10 @@ report_of mode stage h about made fit =
 
 pub tells_report : (mode : Mode) (stage : Stage) (h : History) (sink : SinkDid) (result : Status) →
     h.stage ≡ stage → IsMadeBy mode stage h → AreEvents h.events → Writes Done (text h) sink result →
-    Tells (Shown (IsReportOf mode stage)) sink result
+    Tells beamer_lines (Shown (IsReportOf mode stage)) sink result
 tells_report mode stage h sink result about made fit writes =
-    tells_due (Shown (IsReportOf mode stage)) Done (text h) sink result (refl, report_of mode stage h about made fit)
+    tells_due beamer_lines (Shown (IsReportOf mode stage)) Done (text h) sink result
+    (refl, report_of mode stage h about made fit)
     writes
 
 -- a check answers yes to a report
@@ -102,9 +106,9 @@ writes_nothing before faults = record {
   kept = λ n. refl;
 }
 
-pub tells_nothing : (answer : Answer) (before : Option (List ℕ)) (faults : ℕ) →
-    Tells answer (untouched before faults) Memory
-tells_nothing answer before faults = record {
+pub tells_nothing : (lines : FaultLines) (answer : Answer) (before : Option (List ℕ)) (faults : ℕ) →
+    Tells lines answer (untouched before faults) Memory
+tells_nothing lines answer before faults = record {
   says = Memory;
   text = [];
   is = inr (refl, refl);

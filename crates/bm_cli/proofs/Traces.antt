@@ -19,7 +19,7 @@ use Rattle.bm_cli.specs.Dues.{trace_names, traced}
 use Rattle.bm_cli.specs.Ends.{AsksFor, Ends, IsOf, IsSaid}
 use Rattle.bm_cli.specs.Inside.Fronts.{HasFront}
 use Rattle.bm_cli.specs.Inside.Traces.{ReadsTrace, ReadsTraceFile, both_named}
-use Rattle.bm_cli.specs.Lines.{fault_status}
+use Rattle.bm_cli.specs.Lines.{beamer_lines, fault_status}
 use Rattle.bm_cli.specs.Names.{AsksAll, AsksPrefix}
 use Rattle.bm_cli.specs.Reading.{Holds, Octets, Reading, Reads, reading, script_by, with_capture, with_script}
 use Rattle.bm_cli.specs.Stages.{IsOutside, IsRead, ReadsStage, status_by}
@@ -27,7 +27,7 @@ use Rattle.bm_cli.specs.Statuses.{FilesDid, SinkDid}
 use Rattle.bm_cli.specs.Telling.{Tells}
 use Rattle.bm_cli.proofs.Ending.{asks_as, asks_unread, holds_more, said_outside}
 use Rattle.bm_cli.proofs.Fronts.{few, too_many, whole}
-use Rattle.bm_cli.proofs.Faults.{capture_no_script, of_fault}
+use Rattle.bm_cli.proofs.Faults.{beamer_silent, capture_no_script, of_fault}
 use Rattle.bm_cli.proofs.Laws.{check_is_not}
 use Rattle.bm_cli.proofs.Names.{all_then, asks_more, asks_then, first_of, second_of}
 use Rattle.bm_cli.proofs.Stages.{script_named}
@@ -47,48 +47,50 @@ check_open trace capture script reads =
     (trace_names (reading Replay (both_named capture script) reads) trace) (script_named capture script r)
 
 -- no usage line is due
-usage_of : (r : Result (Stage × List ℕ) StageFault) (text : List ℕ) → IsDue (answer_of_check r) Usage text → ⊥
+usage_of : (r : Result (Stage × List ℕ) StageFault) (text : List ℕ) →
+    IsDue beamer_lines (answer_of_check r) Usage text → ⊥
 usage_of (Ok read) text due = check_is_not due.0 Usage Usage due.2 refl (λ e. cc) (λ e. cc)
 usage_of (Err fault) text due = (of_fault fault).usage (sym due.0)
 
 pub check_usage : (trace capture script : List ℕ) (reads : Reads) (text : List ℕ) →
-    IsDue (due_of_check trace (both_named capture script) reads).answer Usage text → ⊥
+    IsDue beamer_lines (due_of_check trace (both_named capture script) reads).answer Usage text → ⊥
 check_usage trace capture script reads text due =
     usage_of (traced (reading Replay (both_named capture script) reads) (if_short (reads.trace trace))) text due
 
 -- nor a text that says that the words ask about more than the script allows
-exceeded_of : (r : Result (Stage × List ℕ) StageFault) (text : List ℕ) → IsDue (answer_of_check r) Exceeded text → ⊥
+exceeded_of : (r : Result (Stage × List ℕ) StageFault) (text : List ℕ) →
+    IsDue beamer_lines (answer_of_check r) Exceeded text → ⊥
 exceeded_of (Ok read) text due = check_is_not due.0 Exceeded Exceeded due.2 refl (λ e. cc) (λ e. cc)
 exceeded_of (Err fault) text due = (of_fault fault).exceeded (sym due.0)
 
 pub check_exceeded : (trace capture script : List ℕ) (reads : Reads) (text : List ℕ) →
-    IsDue (due_of_check trace (both_named capture script) reads).answer Exceeded text → ⊥
+    IsDue beamer_lines (due_of_check trace (both_named capture script) reads).answer Exceeded text → ⊥
 check_exceeded trace capture script reads text due =
     exceeded_of (traced (reading Replay (both_named capture script) reads) (if_short (reads.trace trace))) text due
 
 -- a bad script is due where the script's name alone is
 trace_no_script : (stage : Stage) (t : Option (List ℕ)) (text : List ℕ) →
-    IsDue (answer_of_check (traced (Ok stage) (if_short t))) BadScript text → ⊥
+    IsDue beamer_lines (answer_of_check (traced (Ok stage) (if_short t))) BadScript text → ⊥
 trace_no_script stage None text due = let no = due.0 in cc
 trace_no_script stage (Some trace) text due =
     check_is_not due.0 BadScript BadScript due.2 refl (λ e. cc) (λ e. cc)
 
 capture_no_names : (script : Script) (r : Captured) (t : Option (List ℕ)) (text : List ℕ) →
-    IsDue (answer_of_check (traced (with_capture script r) (if_short t))) BadScript text → ⊥
+    IsDue beamer_lines (answer_of_check (traced (with_capture script r) (if_short t))) BadScript text → ⊥
 capture_no_names script (Ok read) t text due =
     trace_no_script (record { script = script; capture = read.0 }) t text due
 capture_no_names script (Err fault) t text due = capture_no_script fault (sym due.0)
 
 script_names_of : (trace capture script : List ℕ) (r : Result Script StageFault) (c : List Vip → Captured)
     (t : Option (List ℕ)) (text : List ℕ) →
-    IsDue (answer_of_check (traced (with_script r c) (if_short t))) BadScript text →
+    IsDue beamer_lines (answer_of_check (traced (with_script r c) (if_short t))) BadScript text →
     names_after (both_named capture script) r ++ trace_names (with_script r c) trace ≡ script ∷ []
 script_names_of trace capture script (Ok found) c t text due =
     absurd (capture_no_names found (c found.setting.vips) t text due)
 script_names_of trace capture script (Err fault) c t text due = refl
 
 pub check_names : (trace capture script : List ℕ) (reads : Reads) (text : List ℕ) →
-    IsDue (due_of_check trace (both_named capture script) reads).answer BadScript text →
+    IsDue beamer_lines (due_of_check trace (both_named capture script) reads).answer BadScript text →
     (due_of_check trace (both_named capture script) reads).names ≡ script ∷ []
 check_names trace capture script reads text due =
     script_names_of trace capture script (script_by Replay reads (Some script)) (reads.capture capture)
@@ -275,16 +277,18 @@ trace_through trace capture script told files of (Err e) fault is holds =
 -- HOW THE CALL ENDS
 
 said_check : (due r : Result (Stage × List ℕ) StageFault) (says : Status) (text : List ℕ) → IsRead due r →
-    IsOf (answer_of_check r) says text → IsSaid (answer_of_check due) says text
+    IsOf beamer_lines (answer_of_check r) says text → IsSaid beamer_lines (answer_of_check due) says text
 said_check due (Ok read) says text same said =
-    subst (λ (d : Result (Stage × List ℕ) StageFault). IsSaid (answer_of_check d) says text) (sym same) (inl said)
+    subst (λ (d : Result (Stage × List ℕ) StageFault). IsSaid beamer_lines (answer_of_check d) says text) (sym same)
+    (inl said)
 said_check due (Err fault) says text (inl outside) said =
-    said_outside (answer_of_check due) fault says text outside said
+    said_outside beamer_lines beamer_silent (answer_of_check due) fault says text outside said
 said_check due (Err fault) says text (inr same) said =
-    subst (λ (d : Result (Stage × List ℕ) StageFault). IsSaid (answer_of_check d) says text) (sym same) (inl said)
+    subst (λ (d : Result (Stage × List ℕ) StageFault). IsSaid beamer_lines (answer_of_check d) says text) (sym same)
+    (inl said)
 
 asks_check : (r : Result (Stage × List ℕ) StageFault) (names : List (List ℕ)) (files : FilesDid) (says : Status)
-    (text : List ℕ) → AsksFor names (status_by r) files → IsOf (answer_of_check r) says text →
+    (text : List ℕ) → AsksFor names (status_by r) files → IsOf beamer_lines (answer_of_check r) says text →
     AsksFor names says files
 asks_check (Ok read) names files says text asks (inl due) =
     asks_unread names files says asks (λ e. check_is_not due.0 says ReadFault due.2 e (λ x. cc) (λ x. cc))
@@ -297,11 +301,12 @@ asks_check (Err fault) names files says text asks (inr none) =
 
 pub check_ends : (trace capture script : List ℕ) (told : Octets) (files : FilesDid) (sink : SinkDid)
     (r : Result (Stage × List ℕ) StageFault) (result : Status) →
-    Holds told (λ reads. ReadsTrace trace capture script reads files r) → Tells (answer_of_check r) sink result →
-    Holds told (λ reads. Ends (due_of_check trace (both_named capture script) reads) files sink result)
+    Holds told (λ reads. ReadsTrace trace capture script reads files r) →
+    Tells beamer_lines (answer_of_check r) sink result →
+    Holds told (λ reads. Ends beamer_lines (due_of_check trace (both_named capture script) reads) files sink result)
 check_ends trace capture script told files sink r result read tells =
     holds_more told (λ reads. ReadsTrace trace capture script reads files r)
-    (λ reads. Ends (due_of_check trace (both_named capture script) reads) files sink result)
+    (λ reads. Ends beamer_lines (due_of_check trace (both_named capture script) reads) files sink result)
     (λ reads h. record {
       says = tells.says;
       text = tells.text;

@@ -12,7 +12,7 @@ use Rattle.bm_cli.specs.declared.status.Status.{Status}
 use Rattle.bm_cli.specs.declared.status.Status.TheVariants.{Done, Usage, Exceeded}
 use Rattle.bm_cli.specs.Checks.{IsCheckOf, checked_line, checked_status}
 use Rattle.bm_cli.specs.Headline.{IsReportOf}
-use Rattle.bm_cli.specs.Lines.{fault_line, fault_status, usage_line}
+use Rattle.bm_cli.specs.Lines.{FaultLines, fault_status, usage_line}
 use Rattle.bm_cli.specs.Loads.{IsSummaryOf}
 use Rattle.bm_cli.specs.Names.{script_names}
 use Rattle.bm_cli.specs.Reading.{Reading, Reads, reading, script_by}
@@ -33,13 +33,13 @@ pub record Due : Type 1 where
   pub names : List (List ℕ)
   pub answer : Answer
 
--- the status and the text that are due
-abbrev pub IsDue : Answer → Status → List ℕ → Type 0
-IsDue (Misused line) says text = (says ≡ Usage) × (text ≡ line)
-IsDue (Refused fault) says text = (says ≡ fault_status fault) × (text ≡ fault_line fault)
-IsDue (Shown is) says text = (says ≡ Done) × is text
-IsDue (Warned line) says text = (says ≡ Exceeded) × (text ≡ line)
-IsDue (Judged is) says text =
+-- the status and the text that are due, where faults are told by these lines
+abbrev pub IsDue : FaultLines → Answer → Status → List ℕ → Type 0
+IsDue lines (Misused line) says text = (says ≡ Usage) × (text ≡ line)
+IsDue lines (Refused fault) says text = (says ≡ fault_status fault) × lines fault text
+IsDue lines (Shown is) says text = (says ≡ Done) × is text
+IsDue lines (Warned line) says text = (says ≡ Exceeded) × (text ≡ line)
+IsDue lines (Judged is) says text =
     (a : Checked) × is a × (says ≡ checked_status a) × (text ≡ checked_line a)
 
 -- A STAGE AND WHAT IS SHOWN OF IT

@@ -1,22 +1,21 @@
--- How a call ended, by what was due.
+-- How a call ended, by what was due. Faults are told by these lines.
 use Rattle.std.specs.Prelude.{◌≡◌, ◌≢◌, ◌⊎◌, [], ℕ, List}
 use Rattle.bm_io.specs.Causes.{Rose}
-use Rattle.bm_cli.specs.declared.fault.StageFault.TheVariants.{Files}
 use Rattle.bm_cli.specs.declared.status.Status.{Status}
 use Rattle.bm_cli.specs.declared.status.Status.TheVariants.{ReadFault, Memory}
 use Rattle.bm_cli.specs.Dues.{Answer, Due, IsDue}
-use Rattle.bm_cli.specs.Lines.{fault_line}
+use Rattle.bm_cli.specs.Lines.{FaultLines, IsReadLine}
 use Rattle.bm_cli.specs.Names.{AsksAll, AsksPrefix}
 use Rattle.bm_cli.specs.Statuses.{Writes, code_of, FilesDid, SinkDid}
 
 -- the status and the text that are due; or nothing, because memory was refused
-abbrev pub IsOf : Answer → Status → List ℕ → Type 0
-IsOf answer says text = IsDue answer says text ⊎ ((says ≡ Memory) × (text ≡ []))
+abbrev pub IsOf : FaultLines → Answer → Status → List ℕ → Type 0
+IsOf lines answer says text = IsDue lines answer says text ⊎ ((says ≡ Memory) × (text ≡ []))
 
 -- the same, or the line of a read that failed
-abbrev pub IsSaid : Answer → Status → List ℕ → Type 0
-IsSaid answer says text =
-    IsOf answer says text ⊎ ((says ≡ ReadFault) × (text ≡ fault_line Files))
+abbrev pub IsSaid : FaultLines → Answer → Status → List ℕ → Type 0
+IsSaid lines answer says text =
+    IsOf lines answer says text ⊎ ((says ≡ ReadFault) × IsReadLine lines text)
 
 -- What the files were asked for, by the names that are due and by the status.
 pub record AsksFor (names : List (List ℕ)) (says : Status) (files : FilesDid) : Type 0 where
@@ -32,16 +31,18 @@ pub record AsksFor (names : List (List ℕ)) (says : Status) (files : FilesDid) 
   pub opens : says ≡ ReadFault → names ≢ []
 
 -- How a call ended.
-pub record Ends (due : Due) (files : FilesDid) (sink : SinkDid) (result : Status) : Type 0 where
+pub record Ends (lines : FaultLines) (due : Due) (files : FilesDid) (sink : SinkDid)
+    (result : Status) : Type 0 where
   -- the status and the text that were to be answered
   pub says : Status
   pub text : List ℕ
-  pub said : IsSaid due.answer says text
+  pub said : IsSaid lines due.answer says text
   pub writes : Writes says text sink result
   pub asks : AsksFor due.names says files
 
 -- the same, by the exit status
-pub record EndsWith (due : Due) (files : FilesDid) (sink : SinkDid) (code : ℕ) : Type 0 where
+pub record EndsWith (lines : FaultLines) (due : Due) (files : FilesDid) (sink : SinkDid) (code : ℕ)
+    : Type 0 where
   pub status : Status
   pub is : code ≡ code_of status
-  pub ends : Ends due files sink status
+  pub ends : Ends lines due files sink status

@@ -9,7 +9,7 @@ ghost use Rattle.bm_cli.specs.Checks.{IsCheckOf, checked_line, checked_status};
 ghost use Rattle.bm_cli.specs.Dues.{Judged, due_of_check};
 ghost use Rattle.bm_cli.specs.Ends.{Ends};
 ghost use Rattle.bm_cli.specs.Inside.Traces.{ReadsTrace, ReadsTraceFile};
-ghost use Rattle.bm_cli.specs.Lines.{fault_status};
+ghost use Rattle.bm_cli.specs.Lines.{beamer_lines, fault_status};
 ghost use Rattle.bm_cli.specs.Names.{AsksAll, AsksPrefix};
 ghost use Rattle.bm_cli.specs.Reading.{Holds};
 ghost use Rattle.bm_cli.specs.Stages.{IsOutside};
@@ -45,7 +45,8 @@ pub(crate) fn check_files<F: Files, K: Sink>(
 ) -> Status
     requires room { F.open_now files.old < 4294967295 }
     ensures ends { Holds (F.octets files.old) (λ reads.
-        Ends (due_of_check trace.now (record { capture = capture.now; script = Some script.now }) reads)
+        Ends beamer_lines
+        (due_of_check trace.now (record { capture = capture.now; script = Some script.now }) reads)
         (did F.asked F.faults files.old files.new)
         (did K.written K.faults out.old out.new) result) }
     ensures octets { F.octets files.new ≡ F.octets files.old }
@@ -114,7 +115,7 @@ fn read_trace<F: Files>(alloc: Global, files: &mut F, name: &str) -> Result<Vec<
 fn show_check<K: Sink>(alloc: Global, stage: Stage, trace: &[u8], out: &mut K) -> Status
     requires sound { IsSound stage }
     requires short { length trace.now ≤ LONGEST }
-    ensures { Tells (Judged (IsCheckOf stage trace.now))
+    ensures { Tells beamer_lines (Judged (IsCheckOf stage trace.now))
         (did K.written K.faults out.old out.new) result }
 {
     let Ok(answer) = answer_of(alloc, stage, trace) else {

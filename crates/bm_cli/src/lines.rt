@@ -15,7 +15,8 @@ use std::alloc::{AllocError, Global};
 
 /// Writes the line of a fault, or of a limit that is exceeded. Nothing where memory was refused.
 pub fn refuse<K: Sink>(alloc: Global, fault: &StageFault, out: &mut K) -> Status
-    ensures { Tells (Refused fault.now) (did K.written K.faults out.old out.new) result }
+    ensures { Tells lines.beamer_lines (Refused fault.now)
+        (did K.written K.faults out.old out.new) result }
 {
     let status = status_of(fault);
     if status == Status::Memory {
@@ -27,8 +28,8 @@ pub fn refuse<K: Sink>(alloc: Global, fault: &StageFault, out: &mut K) -> Status
     }
 }
 
-/// The status with which the program ends after a fault.
-fn status_of(fault: &StageFault) -> Status
+/// The status with which a program ends after a fault.
+pub fn status_of(fault: &StageFault) -> Status
     ensures status { result ≡ lines.fault_status fault.now }
     ensures write { result ≢ Status.WriteFault }
 {

@@ -2,6 +2,7 @@
 ghost use Rattle.std.specs.Prelude.{◌≤◌, IfOk, string_bytes};
 ghost use Rattle.bm_load.specs.Loaded.{IsRunOfLoad};
 ghost use Rattle.bm_cli.specs.Dues.{Shown};
+ghost use Rattle.bm_cli.specs.Lines.{beamer_lines};
 ghost use Rattle.bm_cli.specs.Telling.{Tells};
 ghost use Rattle.bm_cli.specs.Loads.{IsSummaryOf};
 ghost use Rattle.bm_cli.specs.Statuses.{did};
@@ -28,7 +29,8 @@ pub(crate) fn run_load<R: Threads + Wait + Sync, K: Sink, G: Gate>(
     gate: &G,
 ) -> Status
     requires { (1 ≤ n) × (n ≤ 20000) }
-    ensures { Tells (Shown (IsSummaryOf n)) (did K.written K.faults out.old out.new) result }
+    ensures { Tells beamer_lines (Shown (IsSummaryOf n))
+        (did K.written K.faults out.old out.new) result }
 {
     match line_of(rt, alloc, n, gate) {
         Ok(line) => say(out, line.as_bytes(), Status::Done),

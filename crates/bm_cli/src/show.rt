@@ -9,6 +9,7 @@ ghost use Rattle.bm_link.specs.Fits.{ArePackets};
 ghost use Rattle.bm_trace.specs.Report as report;
 ghost use Rattle.bm_cli.specs.Dues.{Shown};
 ghost use Rattle.bm_cli.specs.Headline.{IsReportOf};
+ghost use Rattle.bm_cli.specs.Lines.{beamer_lines};
 ghost use Rattle.bm_cli.specs.Telling.{Tells};
 ghost use Rattle.bm_cli.specs.Statuses.{Writes, did};
 
@@ -40,7 +41,7 @@ pub(crate) fn show<R: Threads + Wait + Sync, K: Sink, G: Gate>(
 ) -> Status
     requires sound { IsSound stage }
     requires packets { ArePackets stage.capture.records packets }
-    ensures { Tells (Shown (IsReportOf mode stage))
+    ensures { Tells beamer_lines (Shown (IsReportOf mode stage))
         (did K.written K.faults out.old out.new) result }
 {
     match history_of(rt, alloc, mode, stage, packets, gate) {

@@ -5,6 +5,7 @@ ghost use Rattle.bm_link.specs.Fits.{ArePackets};
 ghost use Rattle.bm_words.specs.Form.{Streams as OfStreams, named};
 ghost use Rattle.bm_cli.specs.Dues.{Shown, due};
 ghost use Rattle.bm_cli.specs.Ends.{Ends};
+ghost use Rattle.bm_cli.specs.Lines.{beamer_lines};
 ghost use Rattle.bm_cli.specs.Reading.{Holds};
 ghost use Rattle.bm_cli.specs.Statuses.{did};
 ghost use Rattle.bm_cli.specs.Streams.{IsStreamsOf};
@@ -35,7 +36,7 @@ pub(crate) fn play_streams<R: Threads + Wait + Sync, F: Files, K: Sink>(
 ) -> Status
     requires room { F.open_now files.old < 4294967295 }
     ensures ends { Holds (F.octets files.old) (λ reads.
-        Ends (due (Some (OfStreams (named names.entry))) reads)
+        Ends beamer_lines (due (Some (OfStreams (named names.entry))) reads)
         (did F.asked F.faults files.old files.new)
         (did K.written K.faults out.old out.new) result) }
     ensures octets { F.octets files.new ≡ F.octets files.old }
@@ -57,7 +58,7 @@ fn show_streams<R: Threads + Wait + Sync, K: Sink>(
 ) -> Status
     requires sound { IsSound stage }
     requires packets { ArePackets stage.capture.records packets }
-    ensures { Tells (Shown (IsStreamsOf packets stage))
+    ensures { Tells beamer_lines (Shown (IsStreamsOf packets stage))
         (did K.written K.faults out.old out.new) result }
 {
     match lines_of(rt, alloc, stage, packets) {

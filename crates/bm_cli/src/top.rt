@@ -5,7 +5,7 @@ ghost use Rattle.bm_cli.specs.Beamer.{beamer};
 ghost use Rattle.bm_cli.specs.Dues.{Misused, due, due_of_stage};
 ghost use Rattle.bm_cli.specs.Ends.{Ends};
 ghost use Rattle.bm_cli.specs.Headline.{IsReportOf};
-ghost use Rattle.bm_cli.specs.Lines.{usage_line};
+ghost use Rattle.bm_cli.specs.Lines.{beamer_lines, usage_line};
 ghost use Rattle.bm_cli.specs.Program.{IsProgram};
 ghost use Rattle.bm_cli.specs.Reading.{Holds};
 ghost use Rattle.bm_cli.specs.Statuses.{did};
@@ -77,7 +77,7 @@ fn answer<R: Threads + Wait + Sync, F: Files, K: Sink, G: Gate>(
 ) -> Status
     requires room { F.open_now files.old < 4294967295 }
     ensures ends { Holds (F.octets files.old) (λ reads.
-        Ends (due (form_in words.now) reads) (did F.asked F.faults files.old files.new)
+        Ends beamer_lines (due (form_in words.now) reads) (did F.asked F.faults files.old files.new)
         (did K.written K.faults out.old out.new) result) }
     ensures unasked { AsksNone (due (form_in words.now)) → files.new ≡ files.old }
     ensures octets { F.octets files.new ≡ F.octets files.old }
@@ -102,7 +102,7 @@ fn answer_form<R: Threads + Wait + Sync, F: Files, K: Sink, G: Gate>(
     requires range { HasCount (asked form) }
     requires room { F.open_now files.old < 4294967295 }
     ensures ends { Holds (F.octets files.old) (λ reads.
-        Ends (due (Some (asked form.entry)) reads) (did F.asked F.faults files.old files.new)
+        Ends beamer_lines (due (Some (asked form.entry)) reads) (did F.asked F.faults files.old files.new)
         (did K.written K.faults out.old out.new) result) }
     ensures unasked { AsksNone (due (Some (asked form.entry))) → files.new ≡ files.old }
     ensures octets { F.octets files.new ≡ F.octets files.old }
@@ -140,7 +140,7 @@ fn play_files<R: Threads + Wait + Sync, F: Files, K: Sink, G: Gate>(
     requires script { mode ≡ Mode.Run → IsSome (named names).script }
     requires room { F.open_now files.old < 4294967295 }
     ensures ends { Holds (F.octets files.old) (λ reads.
-        Ends (due_of_stage mode (IsReportOf mode) (named names.entry) reads)
+        Ends beamer_lines (due_of_stage mode (IsReportOf mode) (named names.entry) reads)
         (did F.asked F.faults files.old files.new)
         (did K.written K.faults out.old out.new) result) }
     ensures octets { F.octets files.new ≡ F.octets files.old }
@@ -154,7 +154,8 @@ fn play_files<R: Threads + Wait + Sync, F: Files, K: Sink, G: Gate>(
 
 /// Writes the usage line.
 fn misuse<K: Sink>(out: &mut K) -> Status
-    ensures { Tells (Misused usage_line) (did K.written K.faults out.old out.new) result }
+    ensures { Tells beamer_lines (Misused usage_line)
+        (did K.written K.faults out.old out.new) result }
 {
     say(out, USAGE.as_bytes(), Status::Usage)
 }

@@ -1,8 +1,8 @@
 -- What one event more changes in the counts of servers and of causes.
 use Rattle.std.proofs.Common.{◌≡◌, ℕ, suc, ◌+◌, ◌-◌, ◌<◌, ◌≤◌, ◌^◌, Bool, true, false, inl, inr, List, [], ◌∷◌, ◌++◌}
-use Rattle.std.proofs.Common.{length, take, get_or, reverse, filter, map, Option, Some, None, is_some, refl, sym, ap}
+use Rattle.std.proofs.Common.{length, take, get_or, reverse, filter, map, Option, Some, None, refl, sym, ap}
 use Rattle.std.proofs.Common.{◌∙◌, arith, subst}
-use Rattle.std.specs.Prelude.{if◌then◌else◌, ◌&&◌, not}
+use Rattle.std.specs.Prelude.{if◌then◌else◌}
 use Rattle.std.proofs.lemmas.Bool.{cases_Bool}
 use Rattle.std.proofs.lemmas.Grind.{common_steps}
 use Rattle.std.proofs.lemmas.List.{length-reverse, length-take-le}
@@ -15,8 +15,7 @@ use Rattle.bm_core.specs.declared.events.Stage.{Stage}
 use Rattle.bm_core.specs.declared.events.Verdict.{Verdict}
 use Rattle.bm_core.specs.declared.events.What.{What}
 use Rattle.bm_core.specs.declared.events.What.TheVariants.{Publish, Switch, Steer, Lose, Arrive, Close, Retire, Sync}
-use Rattle.bm_core.specs.Causes.{cause, is_process}
-use Rattle.bm_trace.specs.CauseOf.{is_break}
+use Rattle.bm_core.specs.Causes.{is_process}
 use Rattle.bm_core.specs.Past.{is_accept}
 use Rattle.bm_table.specs.Tables.{same_server}
 use Rattle.bm_table.proofs.Tables.{same_server-true}
@@ -26,7 +25,7 @@ use Rattle.bm_connections.specs.declared.counters.Counters.{Counters}
 use Rattle.bm_connections.specs.declared.counts.CauseCount.{CauseCount}
 use Rattle.bm_connections.specs.declared.counts.CausePackets.{CausePackets}
 use Rattle.bm_connections.specs.declared.servers.Served.{Served}
-use Rattle.bm_connections.specs.Connections.{as_break, connections, counted_cause, counts, is_after_end, one_more}
+use Rattle.bm_connections.specs.Connections.{as_break, connections, counted_cause, one_more}
 use Rattle.bm_connections.specs.Counts.{all_causes, arrivals_at, causes_in, is_arrival_at, is_cause, occurs, packets_by}
 use Rattle.bm_connections.specs.Inside.Counters.{CanCountMore, HasCounted}
 use Rattle.bm_connections.specs.Inside.Packets as kept
@@ -138,23 +137,6 @@ pub packets_observed : (stage : Stage) (past : List Event) (e : Event) (found : 
 packets_observed stage past e found old new n by k = record {
   each = λ c. n c ∙ (λ i. one_more (is_cause c (by i)) (k.each c i));
 }
-
--- a cause counts unless its packet comes after its connection's own end
-if_counted : (after broke : Bool) (found : Option Cause) → is_some found ≡ broke
-    → (if after then None else found) ≡ (if broke && not after then found else None)
-if_counted true true found is = refl
-if_counted true false found is = refl
-if_counted false true found is = refl
-if_counted false false None is = refl
-if_counted false false (Some c) is = absurd (cc)
-
-pub counted_is : (stage : Stage) (past : List Event) (e : Event) (found result : Option Cause) (after : Bool)
-    → found ≡ cause stage past e.clock.0 e.what → is_some found ≡ is_break stage past e.what
-    → after ≡ is_after_end stage e.what → result ≡ (if after then None else found)
-    → result ≡ counted_cause stage past e
-counted_is stage past e found result after by broke late is =
-    is ∙ if_counted after (is_break stage past e.what) found broke
-    ∙ (λ i. if is_break stage past e.what && not (late i) then by i else None)
 
 packets_few : (stage : Stage) (c : Cause) (past : List Event) → packets_by stage c past ≤ length past
 packets_few stage c [] = omega arith

@@ -2,6 +2,7 @@ pub mod Steps
 pub mod Placed
 pub mod Marked
 pub mod Tabled
+pub mod Resetting
 pub mod Closing
 pub mod LeftOpen
 pub mod WorkedEnds
@@ -23,3 +24,4 @@ pub mod Stories
 pub mod Moving
 pub mod Needing
 pub mod WorkedNeeds
+pub mod WorkedOpen

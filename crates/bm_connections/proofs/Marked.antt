@@ -1,6 +1,6 @@
 -- What is kept of each record: marks of packets, and how their connections end.
 use Rattle.std.proofs.Common.{◌≡◌, ℕ, zero, suc, ◌==◌, Bool, true, false, ◌&&◌, ◌||◌, not, inl, inr, List, [], ◌∷◌}
-use Rattle.std.proofs.Common.{length, Option, Some, None, refl, sym, ◌∙◌, arith}
+use Rattle.std.proofs.Common.{length, Option, Some, None, refl, sym, ap, ◌∙◌, arith}
 use Rattle.std.specs.Prelude.{if◌then◌else◌, slice_get}
 use Rattle.std.specs.Option.{option_map_or}
 use Rattle.std.proofs.lemmas.Bool.{cases_eq}
@@ -11,11 +11,14 @@ use Rattle.bm_base.specs.declared.capture.Record.{Record}
 use Rattle.bm_base.specs.declared.flow.Flow.{Flow}
 use Rattle.bm_base.specs.declared.flow.Segment.{Segment}
 use Rattle.bm_base.specs.Segments.{ACK, FIN, RST, SYN, has_flag, is_opening, same_flow}
+use Rattle.bm_connections.specs.declared.connection.Ending.{Ending}
+use Rattle.bm_connections.specs.declared.connection.Sight.{Sight}
 use Rattle.bm_core.specs.Past.{is_of, steerable}
-use Rattle.bm_connections.specs.declared.connection.Ending.TheVariants.{Open, Fin, Reset}
-use Rattle.bm_connections.specs.Endings.{carries_data, ending_seen, has_since_opening, is_with_data, of_packet}
+use Rattle.bm_connections.specs.declared.connection.Ending.TheVariants.{Open, Fin}
+use Rattle.bm_connections.specs.Endings.{carries_data, ending_seen, has_since_opening, is_segment_with, of_packet, segment_at}
+use Rattle.bm_connections.specs.Endings as endings
 use Rattle.bm_connections.specs.Inside.Marks.{mark_of, marks_by}
-use Rattle.bm_connections.specs.Inside.Rows.{ending_after, is_by_reset}
+use Rattle.bm_connections.specs.Inside.Rows.{ending_after, has_data_at, is_risky, is_unfinished}
 use Rattle.bm_connections.specs.Seen.{is_packet_of, is_seen, last_seen, nowhere}
 use Rattle.bm_connections.proofs.Placed.{get_last, get_other}
 use Rattle.bm_connections.proofs.Steps.{same_flow_refl}
@@ -65,29 +68,23 @@ fin_stays : (s : Segment) → has_flag FIN s ≡ true → is_opening s ≡ false
 unfolding is_opening
 fin_stays s fin = rw fin (and_last (has_flag SYN s) (not (has_flag ACK s)) (not (has_flag RST s)))
 
-ends_more : (rst opening fin r f : Bool) → (fin ≡ true → opening ≡ false)
-    → (if rst || not opening && r then Reset else if fin || not opening && f then Fin else Open)
-    ≡ (if rst then Reset else if opening then Open
-    else if fin && not (is_by_reset (if r then Reset else if f then Fin else Open)) then Fin
-    else if r then Reset else if f then Fin else Open)
-ends_more true opening fin r f h = refl
-ends_more false true true r f h = absurd (let bad : true ≡ false = h refl in cc)
-ends_more false true false r f h = refl
-ends_more false false true true f h = refl
-ends_more false false true false true h = refl
-ends_more false false true false false h = refl
-ends_more false false false r f h = refl
+ends_more : (opening fin f : Bool) → (fin ≡ true → opening ≡ false)
+    → (if fin || not opening && f then Fin else Open)
+    ≡ (if opening then Open else if fin then Fin else if f then Fin else Open)
+ends_more true true f h = absurd (let bad : true ≡ false = h refl in cc)
+ends_more true false f h = refl
+ends_more false true f h = refl
+ends_more false false f h = refl
 
 -- one packet more of a connection
 pub ending_more : (records : List Record) (r : Record) (s : Segment) → r.body ≡ Steerable s
     → ending_seen (r ∷ records) s.flow ≡ ending_after s (ending_seen records s.flow)
 ending_more records r s body =
     rw (body, same_flow_refl s.flow)
-    (ends_more (has_flag RST s) (is_opening s) (has_flag FIN s) (has_since_opening (has_flag RST) records s.flow)
-    (has_since_opening (has_flag FIN) records s.flow) (fin_stays s))
+    (ends_more (is_opening s) (has_flag FIN s) (has_since_opening (has_flag FIN) records s.flow) (fin_stays s))
 
 without : (test : Segment → Bool) (o : Option Segment) (f : Flow) → is_of o f ≡ false
-    → option_map_or (λ s. same_flow s.flow f && test s) o false ≡ false
+    → is_segment_with test o f ≡ false
 without test None f h = refl
 without test (Some s) f h = rw h refl
 
@@ -112,9 +109,7 @@ not_since test (r ∷ records) f unseen =
 
 pub unseen_open : (records : List Record) (f : Flow) → is_seen records f ≡ false → ending_seen records f ≡ Open
 unseen_open records f unseen =
-    let rst = not_since (has_flag RST) records f unseen
-    in let fin = not_since (has_flag FIN) records f unseen
-    in rw (rst, fin) refl
+    let fin = not_since (has_flag FIN) records f unseen in rw fin refl
 
 pub unseen_nowhere : (records : List Record) (f : Flow) → is_seen records f ≡ false → last_seen records f ≡ nowhere
 unseen_nowhere [] f unseen = refl
@@ -127,13 +122,37 @@ pub ending_other : (records : List Record) (r : Record) (s : Segment) (q : Flow)
     → r.body ≡ Steerable s → same_flow s.flow q ≡ false → ending_seen (r ∷ records) q ≡ ending_seen records q
 ending_other records r s q body other = rw (body, other) refl
 
-or_false : (b : Bool) → b ≡ (b || false)
-or_false true = refl
-or_false false = refl
+-- WHAT A BREAK LOSES
+
+of_body : {A : Type 0} (r : Record) (s : Segment) (f : Segment → A) (other : A) → r.body ≡ Steerable s
+    → f s ≡ option_map_or f (steerable (Some r)) other
+of_body r s f other body = rw body refl
+
+unfinished_is : (b : Bool) → is_unfinished (if b then Fin else Open) ≡ not b
+unfinished_is true = refl
+unfinished_is false = refl
+
+-- one packet more of a connection
+pub risky_more : (records : List Record) (r : Record) (s : Segment) → r.body ≡ Steerable s
+    → is_risky s (has_data_at records (last_seen records s.flow).number) (ending_seen records s.flow)
+    ≡ endings.is_risky r records
+risky_more records r s body =
+    let loaded = of_body r s
+    (λ t. carries_data t
+    || option_map_or (λ before. carries_data before) (segment_at records (last_seen records t.flow).number) false)
+    false body
+    in let middle = of_body r s
+    (λ t. not (is_opening t) && not (has_since_opening (has_flag FIN) (r ∷ records) t.flow)) false body
+    in let unfinished : is_unfinished (ending_after s (ending_seen records s.flow))
+    ≡ not (has_since_opening (has_flag FIN) (r ∷ records) s.flow) =
+    ap (λ (e : Ending). is_unfinished e) (sym (ending_more records r s body))
+    ∙ unfinished_is (has_since_opening (has_flag FIN) (r ∷ records) s.flow)
+    in λ i. loaded i || (ap (λ b. not (is_opening s) && b) unfinished ∙ middle) i
 
 -- the first packet of a flow
-pub first_data : (records : List Record) (r : Record) (s : Segment) → r.body ≡ Steerable s
-    → is_seen records s.flow ≡ false → carries_data s ≡ is_with_data r records
-first_data records r s body unseen =
-    let last = unseen_nowhere records s.flow unseen
-    in rw (body, last) (or_false (carries_data s))
+pub first_risky : (records : List Record) (r : Record) (s : Segment) → r.body ≡ Steerable s
+    → is_seen records s.flow ≡ false → is_risky s false Open ≡ endings.is_risky r records
+first_risky records r s body unseen =
+    let before : false ≡ has_data_at records (last_seen records s.flow).number =
+    sym (ap (λ (t : Sight). has_data_at records t.number) (unseen_nowhere records s.flow unseen))
+    in (λ i. is_risky s (before i) (sym (unseen_open records s.flow unseen) i)) ∙ risky_more records r s body

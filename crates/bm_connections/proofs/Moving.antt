@@ -1,10 +1,13 @@
 -- By which changes buckets moved.
 use Rattle.std.proofs.Common.{◌≡◌, ℕ, zero, suc, ◌<◌, ◌≤◌, true, false, inl, inr, arith, leb}
-use Rattle.std.proofs.Common.{Some, None, refl, ap, ◌==◌}
+use Rattle.std.proofs.Common.{Option, Some, None, refl, ap, ◌==◌, if◌then◌else◌, subst}
 use Rattle.std.proofs.lemmas.Bool.{cases_Bool, cases_lt, le-leb}
 use Rattle.std.proofs.lemmas.Bool.Decides.{nat_tests}
+use Rattle.std.proofs.lemmas.Option.{same_Some}
+use Rattle.bm_base.specs.declared.ids.ServerId.{ServerId}
 use Rattle.bm_table.specs.Planned.{Planned}
 use Rattle.bm_table.specs.Tables.{moves, moves_next}
+use Rattle.bm_connections.specs.Leaves.{is_at, last_leave}
 use Rattle.bm_connections.specs.Needed.{nth_move}
 
 from_zero : (v : ℕ) → leb 0 v ≡ true
@@ -107,4 +110,45 @@ nth_zero plan b n (suc v) none =
           let other : (suc (moves plan b 0 v) == n) ≡ false = grind (arith, nat_tests)
           in rw (l, goes, other) rest
       | inr stays ↦ rw (l, stays) rest
+    ]
+
+-- LEAVES
+
+-- the last move is the last by which the bucket left a server, or such a one comes before it
+pub leaves_by : (plan : Planned) (b n v u : ℕ) (s : ServerId) → n ≡ moves plan b 0 v → nth_move plan b n v ≡ Some u
+    → last_leave plan b s v ≡ (if is_at plan b s u then Some u else last_leave plan b s u)
+leaves_by plan b n zero u s is found = absurd (cc)
+leaves_by plan b n (suc v) u s is found =
+    let l = from_zero v
+    in elim (cases_Bool (moves_next plan v b)) [
+      | inl goes ↦
+          let e = moves_goes plan b v goes
+          in let last : suc (moves plan b 0 v) ≡ n = omega (arith, e, is)
+          in let this : (suc (moves plan b 0 v) == n) ≡ true = grind (arith, nat_tests)
+          in let some : Some v ≡ Some u = rw (l, goes, this) at found
+          in subst (λ x. last_leave plan b s (suc v) ≡ (if is_at plan b s x then Some x else last_leave plan b s x))
+          (same_Some v u some) (rw goes refl)
+      | inr stays ↦
+          let e = moves_stays plan b v stays
+          in let before : nth_move plan b n v ≡ Some u = rw (l, stays) at found
+          in rw stays (leaves_by plan b n v u s (omega (arith, e, is)) before)
+    ]
+
+-- a bucket that didn't move left no server
+pub leaves_none : (plan : Planned) (b n v : ℕ) (s : ServerId) → n ≡ moves plan b 0 v → nth_move plan b n v ≡ None
+    → last_leave plan b s v ≡ None
+leaves_none plan b n zero s is found = refl
+leaves_none plan b n (suc v) s is found =
+    let l = from_zero v
+    in elim (cases_Bool (moves_next plan v b)) [
+      | inl goes ↦
+          let e = moves_goes plan b v goes
+          in let last : suc (moves plan b 0 v) ≡ n = omega (arith, e, is)
+          in let this : (suc (moves plan b 0 v) == n) ≡ true = grind (arith, nat_tests)
+          in let some : Some v ≡ None = rw (l, goes, this) at found
+          in absurd (cc)
+      | inr stays ↦
+          let e = moves_stays plan b v stays
+          in let before : nth_move plan b n v ≡ None = rw (l, stays) at found
+          in rw stays (leaves_none plan b n v s (omega (arith, e, is)) before)
     ]

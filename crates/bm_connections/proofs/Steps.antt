@@ -29,13 +29,13 @@ use Rattle.bm_connections.specs.declared.connection.Forwarding.{Forwarding}
 use Rattle.bm_connections.specs.declared.connection.Sight.{Sight}
 use Rattle.bm_connections.specs.declared.connection.Tally.{Tally}
 use Rattle.bm_connections.specs.declared.observed.Facts.{Facts}
-use Rattle.bm_connections.specs.Connections.{acceptor, after_its_end, arrivals, as_break, has_data, is_after_end}
-use Rattle.bm_connections.specs.Connections.{loses_data}
+use Rattle.bm_connections.specs.Connections.{acceptor, after_its_end, arrivals, as_break, breaks_nothing, counts}
+use Rattle.bm_connections.specs.Connections.{is_after_end, loses_data, risks_data}
 use Rattle.bm_connections.specs.Connections.{breakage, first_break, is_arrival_for, last_forwarding, one_more}
 use Rattle.bm_connections.specs.Connections.{strays_for, tally, first_of_two, refusal}
 use Rattle.bm_connections.specs.Inside.Rows.{HasRoom, forwarded_after, observed, refused_after, row}
 use Rattle.bm_connections.specs.Inside.Rows.{tallied}
-use Rattle.bm_connections.specs.Endings.{follows_reset, is_with_data, of_packet}
+use Rattle.bm_connections.specs.Endings.{is_risky, of_packet}
 use Rattle.bm_connections.specs.Seen.{records_of}
 use Rattle.bm_connections.specs.Waits.{wait_of}
 
@@ -118,11 +118,15 @@ server_changed : (b : Bool) (o : Option Accepted) (a : Accepted)
 server_changed true o a = refl
 server_changed false o a = refl
 
--- what is known of the packet of an arrival
+-- what is known about an arrival
 pub record AreFacts (stage : Stage) (past : List Event) (clock : ℕ) (what : What) (x : Facts) : Type 0 where
   pub wait : x.wait ≡ wait_of stage past clock what
-  pub follows : x.follows_reset ≡ is_after_end stage what
-  pub with_data : x.has_data ≡ has_data stage what
+  pub late : x.after_its_end ≡ breaks_nothing stage past what
+  pub risks : x.risks_data ≡ risks_data stage what
+
+counted : (broke after : Bool) → (broke && not (broke && after)) ≡ (broke && not after)
+counted true after = refl
+counted false after = refl
 
 changed : (stage : Stage) (records : List Record) (past : List Event) (clock : Moment) (k : ℕ) (hop : Hop)
     (server : ServerId) (verdict : Verdict) (f : Flow) (found : Option Cause) (x : Facts)
@@ -135,31 +139,33 @@ changed : (stage : Stage) (records : List Record) (past : List Event) (clock : M
     ≡ row stage records (record { clock = clock; what = Arrive k hop server verdict } ∷ past) f
 changed stage records past clock k hop server verdict f found x here facts by broke =
     let e : Event = record { clock = clock; what = Arrive k hop server verdict }
-    in let follows : x.follows_reset ≡ is_after_end stage (Arrive k hop server verdict) = facts.follows
+    in let late : x.after_its_end ≡ breaks_nothing stage past (Arrive k hop server verdict) = facts.late
+    in let count : (is_some found && not x.after_its_end) ≡ counts stage past (Arrive k hop server verdict) =
+    (λ i. broke i && not (late i))
+    ∙ counted (is_break stage past (Arrive k hop server verdict)) (is_after_end stage past (Arrive k hop server verdict))
     in let es : (if is_accept verdict then Some server else acceptor stage f past) ≡ acceptor stage f (e ∷ past) =
     rw here (server_changed (is_accept verdict) (accept_of stage past f) _)
-    in let et : tallied verdict (is_some found) x.follows_reset (tally stage f past) ≡ tally stage f (e ∷ past) =
-    rw (here, broke, follows) refl
+    in let et : tallied verdict (is_some found) x.after_its_end (tally stage f past) ≡ tally stage f (e ∷ past) =
+    rw (here, broke, late) refl
     in let eb : first_of_two (breakage stage f past)
-    (if (is_some found && not x.follows_reset) && is_some (acceptor stage f past)
+    (if (is_some found && not x.after_its_end) && is_some (acceptor stage f past)
     then Some (record { packet = k; clock = clock; server = server; verdict = verdict; cause = found })
     else None) ≡ breakage stage f (e ∷ past) =
-    rw (here, ← broke, ← follows)
-    (ap (λ (o : Option Cause). first_of_two (breakage stage f past)
-    (if (is_some found && not x.follows_reset) && is_some (acceptor stage f past)
-    then Some (record { packet = k; clock = clock; server = server; verdict = verdict; cause = o })
-    else None)) by)
+    rw here (λ i. first_of_two (breakage stage f past)
+    (if count i && is_some (acceptor stage f past)
+    then Some (record { packet = k; clock = clock; server = server; verdict = verdict; cause = by i })
+    else None))
     in let ex : forwarded_after
     (record { packet = k; clock = clock; server = server; verdict = verdict; cause = found }) x.wait
     (last_forwarding stage f past) ≡ last_forwarding stage f (e ∷ past) =
     rw here (ap (λ (n : ℕ). if is_forward verdict
     then Some (record { packet = k; clock = clock; server = server; wait = n })
     else last_forwarding stage f past) facts.wait)
-    in let en : (if is_some found && not x.follows_reset
+    in let en : (if is_some found && not x.after_its_end
     then Some (record { packet = k; clock = clock; server = server; verdict = verdict; cause = found })
     else None)
     ≡ (if is_of (segment_of stage k) f
-    && (is_break stage past (Arrive k hop server verdict) && not (is_after_end stage (Arrive k hop server verdict)))
+    && counts stage past (Arrive k hop server verdict)
     then Some (record {
       packet = k;
       clock = clock;
@@ -168,19 +174,18 @@ changed stage records past clock k hop server verdict f found x here facts by br
       cause = cause stage past clock.0 (Arrive k hop server verdict);
     })
     else None) =
-    rw (here, ← broke, ← follows)
-    (ap (λ (o : Option Cause). if is_some found && not x.follows_reset
-    then Some (record { packet = k; clock = clock; server = server; verdict = verdict; cause = o })
-    else None) by)
+    rw here (λ i. if count i
+    then Some (record { packet = k; clock = clock; server = server; verdict = verdict; cause = by i })
+    else None)
     in let er : refused_after
     (record { packet = k; clock = clock; server = server; verdict = verdict; cause = found }) x
     (if is_accept verdict then Some server else acceptor stage f past) (refusal stage f past)
     ≡ refusal stage f (e ∷ past) =
     refused_changed (is_accept verdict) server (acceptor stage f past) (acceptor stage f (e ∷ past))
     (first_break stage f past) _ _ es en
-    in let el : ((is_some found && not x.follows_reset) && is_some (acceptor stage f past)) && x.has_data
+    in let el : ((is_some found && not x.after_its_end) && is_some (acceptor stage f past)) && x.risks_data
     || loses_data stage f past ≡ loses_data stage f (e ∷ past) =
-    rw (here, broke, follows, facts.with_data) refl
+    rw here (λ i. (count i && is_some (acceptor stage f past)) && facts.risks i || loses_data stage f past)
     in same_connection f _ _ _ _ _ _ _ _ _ _ _ _ _ _ _ es et ex eb er el
 
 -- an arrival of the flow changes its connection so
@@ -231,17 +236,13 @@ arrival_is stage f clock Sync found b is = absurd (cc)
 
 -- what is said of an arrival's packet is said of the break's
 pub record SaysOfPacket (stage : Stage) (what : What) (b : Break) : Type 0 where
-  pub follows : is_after_end stage what ≡ of_packet follows_reset (records_of stage) b.packet
-  pub with_data : has_data stage what ≡ of_packet is_with_data (records_of stage) b.packet
+  pub risks : risks_data stage what ≡ of_packet is_risky (records_of stage) b.packet
 
 pub says_of_packet : (stage : Stage) (clock : Moment) (what : What) (found : Option Cause) (b : Break)
     → as_break clock what found ≡ Some b → SaysOfPacket stage what b
 says_of_packet stage clock (Arrive k hop server verdict) found b is =
     let same : record { packet = k; clock = clock; server = server; verdict = verdict; cause = found } ≡ b = cc
-    in record {
-      follows = ap (λ (y : Break). of_packet follows_reset (records_of stage) y.packet) same;
-      with_data = ap (λ (y : Break). of_packet is_with_data (records_of stage) y.packet) same;
-    }
+    in record { risks = ap (λ (y : Break). of_packet is_risky (records_of stage) y.packet) same }
 says_of_packet stage clock (Publish v) found b is = absurd (cc)
 says_of_packet stage clock (Switch m v) found b is = absurd (cc)
 says_of_packet stage clock (Steer k m) found b is = absurd (cc)

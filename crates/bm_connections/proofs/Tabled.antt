@@ -24,22 +24,21 @@ use Rattle.bm_connections.specs.declared.connection.Connection.{Connection}
 use Rattle.bm_connections.specs.declared.connection.Ending.TheVariants.{Open}
 use Rattle.bm_connections.specs.declared.connection.Sight.{Sight}
 use Rattle.bm_connections.specs.declared.observed.Facts.{Facts}
-use Rattle.bm_connections.specs.declared.resets.Resets.{Resets}
 use Rattle.bm_connections.specs.declared.rows.Rows.{Rows}
 use Rattle.bm_connections.specs.declared.seen.Seen.{Seen}
-use Rattle.bm_connections.specs.Connections.{as_break}
+use Rattle.bm_connections.specs.Connections.{as_break, breaks_nothing}
 use Rattle.bm_connections.specs.Inside.Rows.{AreRows, HasRoomAt, HasRoomForEach, IsSeen, changed_at, ending_after}
 use Rattle.bm_connections.specs.Inside.Rows.{facts_of, observed}
 use Rattle.bm_connections.specs.Inside.Rows.{packet_place, place_in, row}
 use Rattle.bm_connections.specs.Inside.Rows as kept
-use Rattle.bm_connections.specs.Inside.Marks.{AreResets, mark_of, marks_by}
+use Rattle.bm_connections.specs.Inside.Marks.{mark_of, marks_by}
 use Rattle.bm_connections.specs.Inside.Rows.{places_of, seen, seen_again, seen_from, table}
-use Rattle.bm_connections.specs.Endings.{carries_data, follows_reset, is_with_data}
+use Rattle.bm_connections.specs.Endings.{is_risky}
 use Rattle.bm_connections.specs.Seen.{first_seen, flows_of, is_packet_of, is_seen, last_seen, records_of, sight}
 use Rattle.bm_connections.specs.Waits.{wait_of}
 use Rattle.bm_connections.proofs.Placed.{IsPlace, at_place, distinct, listed_is, map_apart, map_changed}
 use Rattle.bm_connections.proofs.Placed.{packet_placed, place_listed, place_push, place_within, room_of}
-use Rattle.bm_connections.proofs.Marked.{ending_more, ending_other, first_data, mark_is, unseen_open}
+use Rattle.bm_connections.proofs.Marked.{ending_more, ending_other, first_risky, mark_is, risky_more, unseen_open}
 use Rattle.bm_connections.proofs.Steps.{AreFacts, says_of_packet}
 use Rattle.bm_connections.proofs.Steps.{here_observed, lost_observed, none_observed, other_observed, room_in}
 use Rattle.bm_connections.proofs.Steps.{same_flow_refl}
@@ -82,12 +81,12 @@ sight_is before r =
 pub unsteered : (records : List Record) (r : Record) (why : Reason) (old new : Seen)
     → r.body ≡ Unsteered why → new.flows ≡ old.flows
     → new.rows.places.items ≡ old.rows.places.items ++ None ∷ []
-    → new.rows.with_data.items ≡ old.rows.with_data.items ++ false ∷ []
+    → new.rows.risky.items ≡ old.rows.risky.items ++ false ∷ []
     → new.rows.connections ≡ old.rows.connections
     → IsSeen records old → IsSeen (r ∷ records) new
 unsteered records r why old new body same places marks connections k = record {
   places = places ∙ rw (body, k.places) refl;
-  with_data = marks ∙ rw (body, k.with_data) refl;
+  risky = marks ∙ rw (body, k.risky) refl;
   connections = ap (λ v. v.items) connections ∙ k.connections ∙ rw body refl;
   flows = λ f. ap (λ (m : tree.BTreeMap Flow ℕ). tree.get (flow_order.ghosts).cmp m f) same ∙ k.flows f
       ∙ rw body refl;
@@ -110,11 +109,11 @@ get_map g [] i x e = absurd (cc)
 get_map g (y ∷ xs) zero x e = ap (option_map g) e
 get_map g (y ∷ xs) (suc i) x e = get_map g xs i x e
 
--- the last packet of the connection is the one whose number is kept
-with_data_is : (records : List Record) (r : Record) (s : Segment) (place : ℕ) (list : List Connection)
+-- what the connection at a place says of its next packet
+risky_at : (records : List Record) (r : Record) (s : Segment) (place : ℕ) (list : List Connection)
     → r.body ≡ Steerable s → slice_get list place ≡ Some (seen records s.flow)
-    → kept.is_with_data list place records s ≡ is_with_data r records
-with_data_is records r s place list body at = rw (body, at) refl
+    → kept.is_risky_at list place records s ≡ is_risky r records
+risky_at records r s place list body at = rw at (risky_more records r s body)
 
 -- one packet more of a connection
 pub seen_here : (records : List Record) (r : Record) (s : Segment) (t : Sight) (place : ℕ) (has : Bool)
@@ -122,9 +121,9 @@ pub seen_here : (records : List Record) (r : Record) (s : Segment) (t : Sight) (
     → r.body ≡ Steerable s → t ≡ sight records r
     → tree.get (flow_order.ghosts).cmp old.flows s.flow ≡ Some place
     → new.flows ≡ old.flows
-    → has ≡ kept.is_with_data old.rows.connections.items place records s
+    → has ≡ kept.is_risky_at old.rows.connections.items place records s
     → new.rows.places.items ≡ old.rows.places.items ++ Some place ∷ []
-    → new.rows.with_data.items ≡ old.rows.with_data.items ++ has ∷ []
+    → new.rows.risky.items ≡ old.rows.risky.items ++ has ∷ []
     → new.rows.connections.items ≡ changed_at (seen_again t s) old.rows.connections.items place
     → IsSeen records old → IsSeen (r ∷ records) new
 seen_here records r s t place has old new body at is same with places marks connections k =
@@ -135,11 +134,10 @@ seen_here records r s t place has old new body at is same with places marks conn
     in let row_at : slice_get old.rows.connections.items place ≡ Some (seen records s.flow) =
     ap (λ list. slice_get list place) k.connections
     ∙ get_map (seen records) (flows_of records) place s.flow (at_place (flows_of records) s.flow place there)
-    in let mark : has ≡ is_with_data r records =
-    with ∙ with_data_is records r s place old.rows.connections.items body row_at
+    in let mark : has ≡ is_risky r records = with ∙ risky_at records r s place old.rows.connections.items body row_at
     in record {
       places = places ∙ rw (body, seen', there, k.places) refl;
-      with_data = marks ∙ (λ i. k.with_data i ++ mark i ∷ []);
+      risky = marks ∙ (λ i. k.risky i ++ mark i ∷ []);
       connections =
           connections ∙ ap (λ xs. changed_at (seen_again t s) xs place) k.connections
           ∙ sym (map_changed (seen records) (seen (r ∷ records)) (seen_again t s) (flows_of records) place s.flow
@@ -160,8 +158,8 @@ pub seen_new : (records : List Record) (r : Record) (s : Segment) (t : Sight) (p
     → ((q : Flow) → tree.get (flow_order.ghosts).cmp new.flows q
     ≡ (if same_flow s.flow q then Some place else tree.get (flow_order.ghosts).cmp old.flows q))
     → new.rows.places.items ≡ old.rows.places.items ++ Some (length old.rows.connections.items) ∷ []
-    → has ≡ carries_data s
-    → new.rows.with_data.items ≡ old.rows.with_data.items ++ has ∷ []
+    → has ≡ kept.is_risky s false Open
+    → new.rows.risky.items ≡ old.rows.risky.items ++ has ∷ []
     → new.rows.connections.items ≡ old.rows.connections.items ++ seen_from s.flow t t (ending_after s Open) ∷ []
     → IsSeen records old → IsSeen (r ∷ records) new
 seen_new records r s t place has old new body at is last put places with marks connections k =
@@ -174,10 +172,10 @@ seen_new records r s t place has old new body at is last put places with marks c
     ap length k.connections ∙ length-map (flows_of records) (seen records)
     in let here : place_in (flows_of records ++ s.flow ∷ []) s.flow ≡ Some (length old.rows.connections.items) =
     place_push (flows_of records) s.flow s.flow absent ∙ rw (same_flow_refl s.flow, count) refl
-    in let mark : has ≡ is_with_data r records = with ∙ first_data records r s body unseen
+    in let mark : has ≡ is_risky r records = with ∙ first_risky records r s body unseen
     in record {
       places = places ∙ rw (body, unseen, here, k.places) refl;
-      with_data = marks ∙ (λ i. k.with_data i ++ mark i ∷ []);
+      risky = marks ∙ (λ i. k.risky i ++ mark i ∷ []);
       connections =
           connections ∙ ap (λ xs. xs ++ seen_from s.flow t t (ending_after s Open) ∷ []) (k.connections
           ∙ sym (map_apart (seen records) (seen (r ∷ records)) (flows_of records) s.flow absent
@@ -202,7 +200,7 @@ pub rows_still : (stage : Stage) (records : List Record) (past : List Event) (e 
     → AreRows stage records past rows → AreRows stage records (e ∷ past) rows
 rows_still stage records past e found rows is k = record {
   places = k.places;
-  with_data = k.with_data;
+  risky = k.risky;
   connections = k.connections
       ∙ map_same _ _ (flows_of records) (λ q. sym (none_observed stage records past e found q is));
 }
@@ -216,7 +214,7 @@ rows_lost stage past e found b rows is place k =
     ap (λ places. packet_place places b.packet) (sym k.places) ∙ place
     in record {
       places = k.places;
-      with_data = k.with_data;
+      risky = k.risky;
       connections = k.connections
           ∙ map_same _ _ (flows_of (records_of stage))
           (λ q. sym (lost_observed stage (records_of stage) past e found b q is
@@ -227,42 +225,41 @@ rows_lost stage past e found b rows is place k =
       no_segment None k = refl
       no_segment (Some s) k = absurd k
 
--- what is known of a packet is what the records say
+-- what is known about an arrival is what the records and the events say
 facts_are : (stage : Stage) (past : List Event) (e : Event) (found : Option Cause) (waited : ℕ) (b : Break)
-    (rows : Rows) (resets : Resets)
+    (late : Bool) (rows : Rows)
     → as_break e.clock e.what found ≡ Some b → waited ≡ wait_of stage past e.clock.0 e.what
-    → rows.with_data.items ≡ marks_by is_with_data (records_of stage) → AreResets (records_of stage) resets
-    → AreFacts stage past e.clock.0 e.what (facts_of rows resets b.packet waited)
-facts_are stage past e found waited b rows resets is after with marks =
+    → late ≡ breaks_nothing stage past e.what
+    → rows.risky.items ≡ marks_by is_risky (records_of stage)
+    → AreFacts stage past e.clock.0 e.what (facts_of rows late b.packet waited)
+facts_are stage past e found waited b late rows is after over with =
     let says = says_of_packet stage e.clock e.what found b is
     in record {
       wait = after;
-      follows = ap (λ xs. mark_of xs b.packet) marks ∙ mark_is follows_reset (records_of stage) b.packet
-          ∙ sym says.follows;
-      with_data = ap (λ xs. mark_of xs b.packet) with ∙ mark_is is_with_data (records_of stage) b.packet
-          ∙ sym says.with_data;
+      late = over;
+      risks = ap (λ xs. mark_of xs b.packet) with ∙ mark_is is_risky (records_of stage) b.packet ∙ sym says.risks;
     }
 
 -- an arrival of a packet of a connection
 pub rows_observed : (stage : Stage) (past : List Event) (e : Event) (found : Option Cause) (waited : ℕ) (b : Break)
-    (place : ℕ) (x : Facts) (resets : Resets) (old new : Rows)
+    (place : ℕ) (x : Facts) (late : Bool) (old new : Rows)
     → as_break e.clock e.what found ≡ Some b → packet_place old.places.items b.packet ≡ Some place
     → waited ≡ wait_of stage past e.clock.0 e.what
     → found ≡ cause stage past e.clock.0 e.what → is_some found ≡ is_break stage past e.what
-    → AreResets (records_of stage) resets → x ≡ facts_of old resets b.packet waited
-    → new.places ≡ old.places → new.with_data ≡ old.with_data
+    → late ≡ breaks_nothing stage past e.what → x ≡ facts_of old late b.packet waited
+    → new.places ≡ old.places → new.risky ≡ old.risky
     → new.connections.items ≡ changed_at (observed b x) old.connections.items place
     → AreRows stage (records_of stage) past old → AreRows stage (records_of stage) (e ∷ past) new
-rows_observed stage past e found waited b place x resets old new is at after by broke marks known same same_data
+rows_observed stage past e found waited b place x late old new is at after by broke over known same same_data
     changed k =
     let there : packet_place (places_of (records_of stage)) b.packet ≡ Some place =
     ap (λ places. packet_place places b.packet) (sym k.places) ∙ at
     in let facts : AreFacts stage past e.clock.0 e.what x =
     subst (λ (y : Facts). AreFacts stage past e.clock.0 e.what y) (sym known)
-    (facts_are stage past e found waited b old resets is after k.with_data marks)
+    (facts_are stage past e found waited b late old is after over k.risky)
     in record {
       places = ap (λ v. v.items) same ∙ k.places;
-      with_data = ap (λ v. v.items) same_data ∙ k.with_data;
+      risky = ap (λ v. v.items) same_data ∙ k.risky;
       connections = changed ∙ ap (λ xs. changed_at (observed b x) xs place) k.connections
           ∙ by_segment facts (segment_of stage b.packet) refl
           (subst (λ o. IsPlace (flows_of (records_of stage)) (segment_of stage b.packet) o) there

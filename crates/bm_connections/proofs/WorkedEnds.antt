@@ -1,9 +1,9 @@
--- How connections end, worked on the events of small replays: an RST that comes twice, a port that is used again, a
--- `close`, and what is lost with a break.
+-- How connections end, worked on the events of small replays: an RST that comes twice, one that is ignored, a port that
+-- is used again, a `close`, and what is lost with a break.
 use Rattle.std.proofs.Common.{◌≡◌, ℕ, true, false, List, [], ◌∷◌, None, is_some, reverse, refl}
 use Rattle.bm_base.specs.declared.flow.Segment.{Segment}
 use Rattle.bm_base.specs.declared.label.Hop.TheVariants.{Direct}
-use Rattle.bm_base.specs.declared.receive.Taken.TheVariants.{Advance, Ended}
+use Rattle.bm_base.specs.declared.receive.Taken.TheVariants.{Advance, Ended, Outside}
 use Rattle.bm_base.specs.Segments.{has_flag, is_opening}
 use Rattle.bm_table.specs.Settings.{plain_setting}
 use Rattle.bm_hash.specs.Buckets.{flow_octets, fnv_step, fnv_1a, flow_hash}
@@ -56,6 +56,31 @@ doubled_told : ((told doubled doubled_events).ending ≡ ByReset)
     × (packets_by doubled NotHeld (reverse doubled_events) ≡ 0)
 unfolding has_flag is_opening flow_octets fnv_step fnv_1a flow_hash
 doubled_told = (refl, refl, refl, refl, refl, refl, refl)
+
+-- the server processes an RST as outside its window and goes on, until a command closes the connection
+abbrev ignored : Stage
+ignored = stage_of plain_setting [] []
+    (record_at 0 (syn 1000 100) ∷ record_at 1000 (rst 1000 90000) ∷ record_at 2000 (data_of 1000 101 10) ∷ [])
+
+abbrev ignored_events : List Event
+ignored_events =
+    steer 1 1 0 ∷ arrive 2 1 Direct 1 Accept
+    ∷ steer 1001 2 0 ∷ arrive 1002 2 Direct 1 (Process Outside) ∷ close_at 1501
+    ∷ steer 2001 3 0 ∷ arrive 2002 3 Direct 1 (Reset NoPrevious) ∷ []
+
+-- what breaks after that counts
+ignored_told : (is_some (told ignored ignored_events).broken ≡ true)
+    × ((told ignored ignored_events).losing_data ≡ true)
+    × ((told ignored ignored_events).tally.after_its_end ≡ 0)
+    × (packets_by ignored NotHeld (reverse ignored_events) ≡ 1)
+unfolding has_flag is_opening flow_octets fnv_step fnv_1a flow_hash
+ignored_told = (refl, refl, refl, refl)
+
+-- an ignored RST is no end
+not_ended : (told ignored (steer 1 1 0 ∷ arrive 2 1 Direct 1 Accept
+    ∷ steer 1001 2 0 ∷ arrive 1002 2 Direct 1 (Process Outside) ∷ [])).ending ≡ Open
+unfolding has_flag is_opening flow_octets fnv_step fnv_1a flow_hash
+not_ended = refl
 
 -- a port is used again after an RST
 abbrev again : Stage
@@ -139,3 +164,18 @@ acknowledged_told : (is_some (told acknowledged acknowledged_events).broken ≡ 
     × ((told acknowledged acknowledged_events).losing_data ≡ true)
 unfolding has_flag is_opening flow_octets fnv_step fnv_1a flow_hash
 acknowledged_told = (refl, refl)
+
+-- the ACK that is lost is in the middle of a connection whose client sent no data, as in a download
+abbrev download : Stage
+download = stage_of plain_setting [] []
+    (record_at 0 (syn 1000 100) ∷ record_at 1000 (ack_of 1000 101) ∷ record_at 2000 (fin 1000 101) ∷ [])
+
+abbrev download_events : List Event
+download_events =
+    steer 1 1 0 ∷ arrive 2 1 Direct 1 Accept ∷ close_at 501
+    ∷ steer 1001 2 0 ∷ arrive 1002 2 Direct 1 (Reset NoPrevious) ∷ []
+
+download_told : (is_some (told download download_events).broken ≡ true)
+    × ((told download download_events).losing_data ≡ true)
+unfolding has_flag is_opening flow_octets fnv_step fnv_1a flow_hash
+download_told = (refl, refl)

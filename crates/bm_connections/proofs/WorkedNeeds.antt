@@ -1,6 +1,6 @@
 -- Worked histories: how long the old servers are needed, and which third change came too soon. WorkedMoves of bm_core
 -- has the replays of the first two stages.
-use Rattle.std.proofs.Common.{◌≡◌, ◌^◌, ℕ, List, [], ◌∷◌, Some, None, refl, reverse}
+use Rattle.std.proofs.Common.{◌≡◌, ◌^◌, ℕ, List, [], ◌∷◌, Option, Some, None, refl, reverse}
 use Rattle.bm_base.specs.declared.label.Hop.TheVariants.{Direct, Chained, Twice}
 use Rattle.bm_base.specs.declared.receive.Taken.TheVariants.{Advance, Ended}
 use Rattle.bm_base.specs.Segments.{has_flag, is_opening}
@@ -8,16 +8,27 @@ use Rattle.bm_table.specs.declared.plan.Kind.TheVariants.{Drain, Shift}
 use Rattle.bm_table.specs.declared.plan.Retirement.TheVariants.{Done}
 use Rattle.bm_table.specs.Settings.{plain_setting}
 use Rattle.bm_hash.specs.Buckets.{flow_octets, fnv_step, fnv_1a, flow_hash}
+use Rattle.bm_core.specs.declared.events.Cause.{Cause}
+use Rattle.bm_core.specs.declared.events.Cause.TheVariants.{MovedThrice}
 use Rattle.bm_core.specs.declared.events.Event.{Event}
 use Rattle.bm_core.specs.declared.events.Stage.{Stage}
 use Rattle.bm_core.specs.declared.events.Verdict.TheVariants.{Accept, Process, Forward, Reset}
 use Rattle.bm_core.specs.declared.events.Why.TheVariants.{ChainExpired, ChainedUnknown}
+use Rattle.bm_core.specs.Causes.{cause}
 use Rattle.bm_core.proofs.Worked.{server, flow_from, syn, data_of, rst, record_at, move, change_at, stage_of, publish}
 use Rattle.bm_core.proofs.Worked.{switch, steer, arrive, retire}
 use Rattle.bm_core.proofs.WorkedMoves.{moved_twice}
 use Rattle.bm_connections.specs.declared.needs.Need.{Need}
 use Rattle.bm_connections.specs.Needed.{all_changes, longest_of_server}
 use Rattle.bm_connections.specs.Thrice.{all_thirds}
+
+-- the cause of the last of these events
+abbrev newest_cause : Stage → List Event → Option Cause
+newest_cause stage [] = None
+newest_cause stage (e ∷ past) = cause stage past e.clock.0 e.what
+
+abbrev cause_of : Stage → List Event → Option Cause
+cause_of stage events = newest_cause stage (reverse events)
 
 -- a need of the connection from port 1000
 abbrev need : ℕ → ℕ → Need
@@ -109,9 +120,59 @@ often_thirds : all_thirds moved_often (reverse often)
 unfolding has_flag is_opening flow_octets fnv_step fnv_1a flow_hash
 often_thirds = refl
 
+-- five moves: the bucket comes home by the second, so the third, fourth and fifth count
+abbrev came_home : Stage
+came_home =
+    stage_of (record plain_setting { servers = server 1 ∷ server 2 ∷ server 3 ∷ [] })
+    (change_at 500 Shift (move 4 3 ∷ []) ∷ change_at 600 Shift (move 4 2 ∷ [])
+    ∷ change_at 700 Shift (move 4 3 ∷ []) ∷ change_at 800 Shift (move 4 1 ∷ [])
+    ∷ change_at 900 Shift (move 4 3 ∷ []) ∷ []) []
+    (record_at 0 (syn 1000 100) ∷ record_at 1000 (data_of 1000 101 10) ∷ [])
+
+abbrev home : List Event
+home = steer 1 1 0
+    ∷ arrive 2 1 Direct 2 Accept
+    ∷ publish 501 1 ∷ switch 502 0 1
+    ∷ publish 601 2 ∷ switch 602 0 2
+    ∷ publish 701 3 ∷ switch 702 0 3
+    ∷ publish 801 4 ∷ switch 802 0 4
+    ∷ publish 901 5 ∷ switch 902 0 5
+    ∷ steer 1001 2 0
+    ∷ arrive 1002 2 Direct 3 (Forward (server 1))
+    ∷ arrive 1003 2 Chained 1 (Forward (server 3))
+    ∷ arrive 1004 2 Twice 3 (Reset ChainedUnknown)
+    ∷ []
+
+home_thirds : all_thirds came_home (reverse home)
+    ≡ record { first = 3; second = 4; third = 5; need = need 101 1004 } ∷ []
+unfolding has_flag is_opening flow_octets fnv_step fnv_1a flow_hash
+home_thirds = refl
+
+-- the third move is the first since it came home: the packet came too late for a forward, and no third change too soon
+abbrev still_named : Stage
+still_named =
+    stage_of (record plain_setting { servers = server 1 ∷ server 2 ∷ server 3 ∷ []; timeout = 10 ^ 9 })
+    (change_at 500 Shift (move 4 3 ∷ []) ∷ change_at 600 Shift (move 4 2 ∷ [])
+    ∷ change_at 700 Shift (move 4 1 ∷ []) ∷ []) []
+    (record_at 0 (syn 1000 100) ∷ record_at 3000000000 (data_of 1000 101 10) ∷ [])
+
+abbrev named : List Event
+named = steer 1 1 0
+    ∷ arrive 2 1 Direct 2 Accept
+    ∷ publish 501 1 ∷ switch 502 0 1
+    ∷ publish 601 2 ∷ switch 602 0 2
+    ∷ publish 701 3 ∷ switch 702 0 3
+    ∷ steer 3000000001 2 0
+    ∷ arrive 3000000002 2 Direct 1 (Reset ChainExpired)
+    ∷ []
+
+named_thirds : (cause_of still_named named ≡ Some MovedThrice) × (all_thirds still_named (reverse named) ≡ [])
+unfolding has_flag is_opening flow_octets fnv_step fnv_1a flow_hash
+named_thirds = (refl, refl)
+
 -- RETIREMENTS
 
--- a server retires while it holds a connection, a packet of which comes a second later
+-- a server retires while it holds a connection, and a packet of the connection comes a second later
 abbrev drained : Stage
 drained =
     stage_of (record plain_setting { shards = 1; timeout = 10 ^ 9 })

@@ -16,8 +16,8 @@ is_by_the_change None = false
 is_by_the_change (Some ByTheChange) = true
 is_by_the_change (Some Anyway) = false
 
--- the answer for these connections, by how they compare, by how many are left open that a change
--- moves, and by the longest late wait
+-- the answer for these connections, by how they compare, by how many are left open and away, and
+-- by the longest late wait
 abbrev pub answer_of : List Connection → List Compared → ℕ → Option LongestLate → Answer
 answer_of cs compared left late = record {
   connections = length cs;

@@ -3,11 +3,12 @@
 use Rattle.std.specs.Prelude.{ℕ, suc, Bool, false, ◌&&◌, ◌||◌, not, if◌then◌else◌, List, []}
 use Rattle.std.specs.Prelude.{◌∷◌, map}
 use Rattle.std.specs.Prelude.{Option, Some, None, is_some, option_map, reverse}
+use Rattle.std.specs.Option.{option_map_or}
 use Rattle.bm_base.specs.declared.capture.Record.{Record}
 use Rattle.bm_base.specs.declared.flow.Flow.{Flow}
 use Rattle.bm_base.specs.declared.ids.Moment.{Moment}
 use Rattle.bm_base.specs.declared.ids.ServerId.{ServerId}
-use Rattle.bm_base.specs.Segments.{same_flow}
+use Rattle.bm_base.specs.Segments.{RST, has_flag, is_opening, same_flow}
 use Rattle.bm_core.specs.declared.events.Cause.{Cause}
 use Rattle.bm_core.specs.declared.events.Event.{Event}
 use Rattle.bm_core.specs.declared.events.History.{History}
@@ -16,29 +17,54 @@ use Rattle.bm_core.specs.declared.events.Verdict.{Verdict}
 use Rattle.bm_core.specs.declared.events.What.{What}
 use Rattle.bm_core.specs.declared.events.What.TheVariants.{Arrive, Close}
 use Rattle.bm_core.specs.Causes.{cause, is_process}
-use Rattle.bm_core.specs.Past.{accept_of, is_accept, is_forward, is_of, segment_of}
+use Rattle.bm_core.specs.Past.{accept_of, ends, is_accept, is_forward, is_of, segment_of}
 use Rattle.bm_trace.specs.CauseOf.{is_break}
 use Rattle.bm_trace.specs.Totals.{arrives, is_drop, is_reset, is_stray}
 use Rattle.bm_connections.specs.declared.connection.Break.{Break}
 use Rattle.bm_connections.specs.declared.connection.Connection.{Connection}
 use Rattle.bm_connections.specs.declared.connection.Ending.{Ending}
-use Rattle.bm_connections.specs.declared.connection.Ending.TheVariants.{Close as ByClose}
+use Rattle.bm_connections.specs.declared.connection.Ending.TheVariants.{Close as ByClose, Reset}
 use Rattle.bm_connections.specs.declared.connection.Forwarding.{Forwarding}
 use Rattle.bm_connections.specs.declared.connection.Tally.{Tally}
-use Rattle.bm_connections.specs.Endings.{ending_seen, follows_reset, is_with_data, of_packet}
+use Rattle.bm_connections.specs.Endings.{ending_seen, is_risky, is_segment_with, of_packet}
 use Rattle.bm_connections.specs.Seen.{first_seen, flows_of, last_seen, records_of}
 use Rattle.bm_connections.specs.Waits.{wait}
 
 -- WHICH BREAKS COUNT
 
--- the event is an arrival of a packet that carries RST or comes after its connection's own RST
-abbrev pub is_after_end : Stage → What → Bool
-is_after_end stage (Arrive k hop server verdict) = of_packet follows_reset (records_of stage) k
-is_after_end stage _ = false
+-- an RST of the flow arrives, and its server ends the connection, or drops it: the client is gone
+abbrev pub is_end : Stage → Flow → What → Bool
+is_end stage f (Arrive k hop server verdict) =
+    is_segment_with (has_flag RST) (segment_of stage k) f && (ends verdict || is_drop verdict)
+is_end stage f _ = false
+
+-- a packet arrives that opens the flow
+abbrev pub is_beginning : Stage → Flow → What → Bool
+is_beginning stage f (Arrive k hop server verdict) =
+    is_segment_with is_opening (segment_of stage k) f
+is_beginning stage f _ = false
+
+-- an RST ended the flow's connection, and no packet has opened it since
+abbrev pub is_ended : Stage → Flow → List Event → Bool
+is_ended stage f [] = false
+is_ended stage f (e ∷ past) =
+    is_end stage f e.what || not (is_beginning stage f e.what) && is_ended stage f past
+
+-- a packet arrives that carries RST, or doesn't open its flow after an RST ended it
+abbrev pub is_after_end : Stage → List Event → What → Bool
+is_after_end stage past (Arrive k hop server verdict) =
+    option_map_or
+    (λ s. has_flag RST s || not (is_opening s) && is_ended stage s.flow past)
+    (segment_of stage k) false
+is_after_end stage past _ = false
 
 -- a packet is dropped, reset or a stray, and its connection hadn't ended itself
 abbrev pub counts : Stage → List Event → What → Bool
-counts stage past what = is_break stage past what && not (is_after_end stage what)
+counts stage past what = is_break stage past what && not (is_after_end stage past what)
+
+-- the same, but it had
+abbrev pub breaks_nothing : Stage → List Event → What → Bool
+breaks_nothing stage past what = is_break stage past what && is_after_end stage past what
 
 -- its cause
 abbrev pub counted_cause : Stage → List Event → Event → Option Cause
@@ -72,8 +98,7 @@ strays_for stage f (e ∷ past) =
 abbrev pub after_its_end : Stage → Flow → List Event → ℕ
 after_its_end stage f [] = 0
 after_its_end stage f (e ∷ past) =
-    one_more
-    (is_arrival_for stage f e.what && is_break stage past e.what && is_after_end stage e.what)
+    one_more (is_arrival_for stage f e.what && breaks_nothing stage past e.what)
     (after_its_end stage f past)
 
 -- how many arrivals had each verdict, how many were strays, and how many breaks don't count
@@ -124,16 +149,16 @@ breakage stage f (e ∷ past) =
     then as_break e.clock e.what (cause stage past e.clock.0 e.what)
     else None)
 
--- the event is an arrival of a packet with data, or of one whose last packet before it has data
-abbrev pub has_data : Stage → What → Bool
-has_data stage (Arrive k hop server verdict) = of_packet is_with_data (records_of stage) k
-has_data stage _ = false
+-- the event is an arrival of a packet that concerns more than the farewell
+abbrev pub risks_data : Stage → What → Bool
+risks_data stage (Arrive k hop server verdict) = of_packet is_risky (records_of stage) k
+risks_data stage _ = false
 
--- a packet with data broke the flow, or one that came right after data
+-- such a packet broke the flow
 abbrev pub loses_data : Stage → Flow → List Event → Bool
 loses_data stage f [] = false
 loses_data stage f (e ∷ past) =
-    breaks stage f past e.what && has_data stage e.what || loses_data stage f past
+    breaks stage f past e.what && risks_data stage e.what || loses_data stage f past
 
 -- WHAT REFUSED
 
@@ -187,10 +212,11 @@ abbrev pub is_closed : Stage → Flow → List Event → Bool
 is_closed stage f [] = false
 is_closed stage f (e ∷ past) = closed_by stage f e.what (is_closed stage f past)
 
--- a `close` ended the connection, or else what the records show
+-- a `close` ended the connection, or else an RST, or else what the records show
 abbrev pub ending : Stage → List Record → List Event → Flow → Ending
 ending stage records past f =
-    if is_closed stage f past then ByClose else ending_seen records f
+    if is_closed stage f past then ByClose
+    else if is_ended stage f past then Reset else ending_seen records f
 
 -- THE TABLE
 

@@ -77,6 +77,6 @@ copies_line c =
     ++ codes " records with data, SYN or FIN look like copies of the one before; "
     ++ codes "capture on one interface, or remove them by editcap -d\n"
 
--- the same, if so many look like copies
+-- the line where more than a tenth look like copies, and otherwise nothing
 abbrev pub copies_text : CopyCount → List ℕ
 copies_text c = if are_copies c then copies_line c else []

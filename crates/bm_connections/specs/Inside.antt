@@ -8,8 +8,10 @@ pub mod Late
 pub mod Loads
 pub mod Marks
 pub mod Needs
+pub mod OpenEnds
 pub mod Owned
 pub mod Packets
+pub mod Resets
 pub mod Rows
 pub mod Stamps
 pub mod Stories

@@ -7,6 +7,7 @@ pub mod Counts
 pub mod Replies
 pub mod Late
 pub mod Needed
+pub mod Leaves
 pub mod Thrice
 pub mod Laws
 pub mod Times

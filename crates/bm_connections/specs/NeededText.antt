@@ -22,7 +22,7 @@ need_text clock need =
     ∷ [])
     ++ until_text clock need
 
--- the line of a change because of which packets were forwarded
+-- the line of a change that packets were forwarded after
 abbrev pub change_line : Option ℕ → NeededChange → List ℕ
 change_line clock c =
     codes "needed"

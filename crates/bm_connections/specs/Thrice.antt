@@ -6,6 +6,7 @@ use Rattle.std.specs.Prelude.{reverse, Option, Some, None}
 use Rattle.bm_base.specs.declared.flow.Flow.{Flow}
 use Rattle.bm_base.specs.declared.flow.Segment.{Segment}
 use Rattle.bm_base.specs.declared.ids.Moment.{Moment}
+use Rattle.bm_base.specs.declared.ids.ServerId.{ServerId}
 use Rattle.bm_base.specs.declared.label.Label.{Label}
 use Rattle.bm_core.specs.declared.events.Cause.TheVariants.{MovedThrice}
 use Rattle.bm_core.specs.declared.events.Event.{Event}
@@ -21,17 +22,25 @@ use Rattle.bm_connections.specs.declared.needs.Need.{Need}
 use Rattle.bm_connections.specs.declared.needs.NeedOf.{NeedOf}
 use Rattle.bm_connections.specs.declared.thrice.MovedThrice.{MovedThrice as Moved}
 use Rattle.bm_connections.specs.Counts.{is_cause}
+use Rattle.bm_connections.specs.Leaves.{away_since}
 use Rattle.bm_connections.specs.Needed.{longest_need, need_of_change, nth_move}
 use Rattle.bm_connections.specs.Seen.{last_seen, records_of}
 
 -- HOW MUCH LATER
 
--- the number of changes before the third that moves the flow's bucket after version w, if it is
--- among the first v: by it the server of version w leaves the bucket's entry
-abbrev pub third_move : Stage → Flow → ℕ → ℕ → Option ℕ
-third_move stage f w v =
-    nth_move stage.script.plan (bucket stage f)
-    (moves stage.script.plan (bucket stage f) 0 w + 3) v
+-- the number of changes before the third of those that moved the bucket since this one, which it
+-- counts itself, if it is among the first v
+abbrev pub third_since : Planned → ℕ → Option ℕ → ℕ → Option ℕ
+third_since plan b None v = None
+third_since plan b (Some first) v = nth_move plan b (moves plan b 0 first + 3) v
+
+-- the same for the change by which the flow's bucket left this server the last time: by the third
+-- the server leaves the bucket's entry. There is none where version v gives the bucket to the
+-- server, or where it moved only once or twice since it left: the server is in the entry then.
+abbrev pub third_move : Stage → Flow → ServerId → ℕ → Option ℕ
+third_move stage f s v =
+    third_since stage.script.plan (bucket stage f)
+    (away_since stage.script.plan (bucket stage f) s v) v
 
 -- how much later the change after the first v must come to be later than the flow's last packet
 abbrev pub delay : Stage → Flow → ℕ → ℕ
@@ -49,10 +58,12 @@ need_of_third stage f clock (Some v) =
 abbrev pub third_need : Stage → Moment → Option Segment → Option Accepted → Option Label
     → Option NeedOf
 third_need stage clock (Some s) (Some a) (Some l) =
-    need_of_third stage s.flow clock (third_move stage s.flow a.version l.version.0)
+    need_of_third stage s.flow clock (third_move stage s.flow a.server l.version.0)
 third_need stage clock _ _ _ = None
 
--- the bucket of the packet that arrives moved three times: how much later the third must come
+-- the packet that arrives has the cause moved-thrice: how much later the third change must come.
+-- The cause counts the moves since the Accept, also those before the bucket came home, so such a
+-- packet may have no third change.
 abbrev pub thrice_need : Stage → List Event → Moment → What → Option NeedOf
 thrice_need stage past clock (Arrive k hop server verdict) =
     if is_cause MovedThrice (cause stage past clock.0 (Arrive k hop server verdict))

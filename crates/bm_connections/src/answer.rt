@@ -11,7 +11,7 @@ use std::alloc::{AllocError, Global};
 use std::fmt;
 
 /// How many connections there are, how many of them are broken, how many the change broke, how many
-/// lose data, how many were refused, and how many are left open that a change moves; and the least
+/// lose data, how many were refused, and how many are left open and away; and the least
 /// timeout in seconds under which no packet would have come too late, if one did.
 #[derive(Clone, Copy, PartialEq, Eq)]
 pub struct Answer {
@@ -86,7 +86,7 @@ fn changed_in(table: &[Connection], wholes: &[bool]) -> u64
 }
 
 /// The answer for a table, by whether each of it is whole in the base, by how many connections are
-/// left open that a change moves, and by the longest late wait.
+/// left open and away, and by the longest late wait.
 pub fn answer_of(
     table: &[Connection],
     wholes: &[bool],

@@ -9,8 +9,8 @@ pub struct Sight {
     pub moment: Moment,
 }
 
-/// How a connection ended, as the capture and the replies to `close` show it: not at all, by a FIN
-/// or an RST of the client after its last SYN, or by a `close` after its last Accept.
+/// How a connection ended: not at all; by a FIN of the client after its last SYN; by an RST of the
+/// client after that, which a server took or dropped; or by a `close` after its last Accept.
 #[derive(Clone, Copy, PartialEq, Eq)]
 pub enum Ending {
     Open,
@@ -20,8 +20,8 @@ pub enum Ending {
 }
 
 /// How many arrivals of a connection's packets had each verdict. Strays are among the processed.
-/// `after_its_end` are the drops, resets and strays of packets that carry the connection's own RST
-/// or come after it: they break nothing.
+/// `after_its_end` are the drops, resets and strays of packets that carry RST or come after an RST
+/// ended the connection: they break nothing.
 #[derive(Clone, Copy, PartialEq, Eq)]
 pub struct Tally {
     pub accepted: u64,
@@ -56,10 +56,10 @@ pub struct Forwarding {
 /// A connection: its flow, the records of its first and last packets, how it ended, the server that
 /// accepted it last, what became of its packets, and which of them was forwarded last. The first
 /// packet that was dropped, reset or a stray after a server had accepted the connection broke it;
-/// if no server accepted it, the first such packet was refused. A packet that carries the
-/// connection's own RST or comes after it is neither. The connection loses data if a packet that
-/// broke it has data, or comes right after one with data. A port that is used again is the same
-/// flow.
+/// if no server accepted it, the first such packet was refused. A packet that carries
+/// RST, or comes after an RST ended the connection, is neither. The connection loses data unless
+/// each packet that broke it only concerns the farewell: it has no data, the last packet before it
+/// has none, and the client's FIN has come. A port that is used again is the same flow.
 #[derive(Clone, Copy, PartialEq, Eq)]
 pub struct Connection {
     pub flow: Flow,

@@ -75,11 +75,12 @@ impl Counters {
         ensures { IfOk result (HasCounted h.now.stage (reverse h.now.events)) }
     {
         let events = h.events.items();
-        let resets = Resets::of(alloc, h.stage.capture.records.items())?;
+        let mut resets = Resets::new(alloc);
         let mut counters = Counters::new(alloc, &h.stage)?;
         for (place, event) in events.iter().enumerate() {
-            let cause = resets.counted(event, causes.at(place));
+            let cause = resets.counted(&h.stage, event, causes.at(place));
             counters.observe(alloc, &h.stage, place, event, cause)?;
+            resets.observe(&h.stage, event)?;
         }
         Ok(counters)
     }

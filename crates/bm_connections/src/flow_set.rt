@@ -2,11 +2,18 @@
 ghost use Rattle.std.specs.Prelude.{◌≡◌, false, if◌then◌else◌, OnOk};
 ghost use Rattle.bm_base.specs.Segments.{same_flow};
 ghost use Rattle.bm_base.specs.declared.flow.Flow.{Flow};
-ghost use Rattle.bm_connections.specs.Inside.FlowSets.{is_in};
+ghost use Rattle.bm_connections.specs.Inside.FlowSets.{changed, is_in};
 
 use bm_base::Flow;
 use std::alloc::{AllocError, Global};
 use std::collections::BTreeMap;
+
+/// A flow, and whether it is then in a set.
+#[derive(Clone, Copy)]
+pub(crate) struct Membership {
+    pub(crate) flow: Flow,
+    pub(crate) member: bool,
+}
 
 /// Some flows.
 #[derive(Drop)]
@@ -31,7 +38,7 @@ impl FlowSet {
     }
 
     /// Takes the flow in, if `so` holds, and otherwise out.
-    pub(crate) fn put(&mut self, flow: Flow, so: bool) -> Result<(), AllocError>
+    fn put(&mut self, flow: Flow, so: bool) -> Result<(), AllocError>
         ensures { OnOk result ((q : Flow) → is_in self.new q
             ≡ (if same_flow flow q then so else is_in self.old q)) }
     {
@@ -39,6 +46,15 @@ impl FlowSet {
             self.flows.insert(flow, ())?;
         } else {
             self.flows.remove(&flow);
+        }
+        Ok(())
+    }
+    /// Takes the flow of this change in or out, if there is one.
+    pub(crate) fn change(&mut self, change: Option<Membership>) -> Result<(), AllocError>
+        ensures { OnOk result ((q : Flow) → is_in self.new q ≡ changed change q (is_in self.old q)) }
+    {
+        if let Some(change) = change {
+            self.put(change.flow, change.member)?;
         }
         Ok(())
     }

@@ -151,13 +151,13 @@ impl Followed {
         let owner = self.owners.owner(packet)?;
         let label = self.stamps.label(stage, packet)?;
         let moves = self.stamps.moves();
-        let before = third_move(moves, stage, &flow, owner.version, label.version.0)?;
+        let before = third_move(moves, stage, &flow, owner.server, label.version.0)?;
         let time = self.delay(stage, &flow, before);
         Some(need_of(before + 1, time, clock, flow))
     }
 
     /// How much later the third change must come that moved the bucket of the packet of the event
-    /// that comes next, which has this cause.
+    /// that comes next, which has this cause, since the bucket left the owner's server.
     pub(crate) fn thrice_need(
         &self,
         stage: &Stage,

@@ -1,32 +1,40 @@
-//! The connections that are left open at a capture's end after their bucket has moved.
-ghost use Rattle.std.specs.Prelude.{◌≡◌, ◌++◌, ◌<◌, ◌^◌, ◌∷◌, [], suc, length, IfOk, OnOk};
-ghost use Rattle.std.specs.Prelude.{if◌then◌else◌, flat_map, string_bytes};
-ghost use Rattle.std.specs.Option.{option_copied};
-ghost use Rattle.bm_table.specs.Tables.{change_moment};
+//! The connections that are left open at a capture's end while their bucket is at another server.
+ghost use Rattle.std.specs.Prelude.{◌≡◌, ◌++◌, ◌<◌, ◌^◌, length, IfOk, OnOk, flat_map};
+ghost use Rattle.std.specs.Prelude.{string_bytes};
 ghost use Rattle.bm_state.specs.Moves.{AreMoves};
 ghost use Rattle.bm_trace.specs.Ranges.{HasRanges};
+ghost use Rattle.bm_connections.specs.Inside.OpenEnds as kept;
 ghost use Rattle.bm_connections.specs.OpenEnds as spec;
 
 use crate::connection::{Connection, Ending};
+use crate::moved::away_since;
 use crate::times::SecondsText;
-use bm_base::{List, Memory, Moment, Record, Text, Version};
+use bm_base::{List, Memory, Moment, Record, Text};
 use bm_core::Stage;
 use bm_hash::bucket_of;
 use bm_state::Moves;
-use bm_table::{Change, Plan};
 use std::alloc::{AllocError, Global};
 
-/// A connection that is left open: its bucket, the moment of its first packet, and how many
-/// nanoseconds before the capture's last record its last packet came.
+/// A connection that is left open, and whose bucket is at another server in the plan's last
+/// version: the number of changes before the last one by which the bucket left its server, and how
+/// many nanoseconds before the capture's last record its last packet came.
 #[derive(Clone, Copy)]
-pub(crate) struct LeftOpen {
-    pub(crate) bucket: u32,
-    pub(crate) opened: Moment,
+pub(crate) struct Away {
+    pub(crate) before: u32,
     pub(crate) idle: u64,
 }
 
-/// A change of the plan by its number, counted from 1, how many connections that are left open it
-/// moves, and how many nanoseconds at most one of these was idle at the capture's end.
+/// How many connections are away by a change, and how many nanoseconds at most one of these was
+/// idle at the capture's end.
+#[derive(Clone, Copy)]
+pub(crate) struct AwayCount {
+    pub(crate) connections: u64,
+    pub(crate) longest_idle: u64,
+}
+
+/// A change of the plan by its number, counted from 1, by which the buckets of connections that are
+/// left open left their servers and didn't come back: how many connections these are, and how many
+/// nanoseconds at most one of them was idle at the capture's end.
 #[derive(Clone, Copy, PartialEq, Eq)]
 pub struct OpenEnd {
     pub change: u32,
@@ -34,8 +42,8 @@ pub struct OpenEnd {
     pub longest_idle: u64,
 }
 
-/// What connections left open tell of the changes: each change that moves some, and how many
-/// connections one of the changes moves.
+/// What connections left open tell of the changes: each change that some are away by, and how many
+/// these are together.
 #[derive(Drop)]
 pub struct OpenEnds {
     pub changes: List<OpenEnd>,
@@ -63,155 +71,135 @@ fn last_moment(records: &[Record]) -> Moment
     records[count - 1].moment
 }
 
-fn left_open_as(stage: &Stage, end: Moment, c: &Connection) -> LeftOpen
+/// The number of changes before the last one by which the connection's bucket left its server, if
+/// the connection is left open and the plan's last version gives the bucket to another.
+fn left_away(moves: &Moves, stage: &Stage, c: &Connection) -> Option<u32>
     requires ranges { HasRanges stage.now }
-    requires end { end.0 ≡ spec.last_moment stage.now.capture.records }
-    ensures { result ≡ spec.left_open_as stage.now c.now }
+    requires moves { AreMoves stage.now.script.plan moves.now }
+    ensures { result ≡ spec.left_away stage.now c.now }
 {
-    LeftOpen {
-        bucket: bucket_of(&c.flow, stage.script.setting.buckets),
-        opened: c.first.moment,
-        idle: end.0.saturating_sub(c.last.moment.0),
+    if !is_left_open(c) {
+        return None;
     }
+    let server = c.server?;
+    let plan = &stage.script.plan;
+    let bucket = bucket_of(&c.flow, stage.script.setting.buckets);
+    away_since(moves, plan, bucket, server, plan.versions())
 }
 
-/// Appends the connection, if it is left open.
-fn push_left_open(
-    left: &mut Vec<LeftOpen>,
+/// Appends the connection, if it is left open and away.
+fn push_away(
+    away: &mut Vec<Away>,
+    moves: &Moves,
     stage: &Stage,
     end: Moment,
     c: &Connection,
 ) -> Result<(), AllocError>
     requires ranges { HasRanges stage.now }
+    requires moves { AreMoves stage.now.script.plan moves.now }
     requires end { end.0 ≡ spec.last_moment stage.now.capture.records }
-    ensures { OnOk result (left.new.items ≡ left.old.items
-        ++ (if spec.is_left_open c.now then spec.left_open_as stage.now c.now ∷ [] else [])) }
+    ensures { OnOk result (away.new.items ≡ away.old.items
+        ++ spec.as_away (spec.idle_of stage.now c.now) (spec.left_away stage.now c.now)) }
 {
-    if is_left_open(c) {
-        left.push(left_open_as(stage, end, c))?;
+    if let Some(before) = left_away(moves, stage, c) {
+        away.push(Away {
+            before,
+            idle: end.0.saturating_sub(c.last.moment.0),
+        })?;
     }
     Ok(())
 }
 
-/// Those of the connections that are left open.
-fn those_left_open(
+/// Those of the connections that are left open and away.
+fn those_away(
     alloc: Global,
+    moves: &Moves,
     stage: &Stage,
     table: &[Connection],
-) -> Result<Vec<LeftOpen>, AllocError>
-    requires { HasRanges stage.now }
-    ensures { IfOk result (λ left. left.items ≡ spec.left_open stage.now table.now) }
+) -> Result<Vec<Away>, AllocError>
+    requires ranges { HasRanges stage.now }
+    requires moves { AreMoves stage.now.script.plan moves.now }
+    ensures { IfOk result (λ away. away.items ≡ spec.those_away stage.now table.now) }
 {
     let end = last_moment(stage.capture.records.items());
-    let mut left = Vec::new(alloc);
+    let mut away = Vec::new(alloc);
     for c in table {
-        push_left_open(&mut left, stage, end, c)?;
+        push_away(&mut away, moves, stage, end, c)?;
     }
-    Ok(left)
+    Ok(away)
 }
 
-/// Whether the change after this version moves the connection.
-fn is_moved_by(plan: &Plan, moves: &Moves, version: u32, c: &LeftOpen) -> bool
-    requires moves { AreMoves plan.now moves.now }
-    requires below { version < 4294967295 }
-    ensures { result ≡ spec.is_moved_by plan.now version c.now }
+fn with_one(count: AwayCount, idle: u64) -> AwayCount
+    requires { count.connections < 2 ^ 63 }
+    ensures { result ≡ kept.with_one idle count }
 {
-    let next = Version(version + 1);
-    c.opened.0 <= moment_of(plan.next_change(Version(version))).0
-        && moves.count(plan, c.bucket, Version(version), next) > 0
-}
-
-fn moment_of(change: Option<&Change>) -> Moment
-    ensures { result.0 ≡ change_moment (option_copied change.entry) }
-{
-    match change {
-        None => Moment(0),
-        Some(change) => change.moment,
+    AwayCount {
+        connections: count.connections + 1,
+        longest_idle: idle.max(count.longest_idle),
     }
 }
 
-/// What the change after this version does to these.
-fn open_end(plan: &Plan, moves: &Moves, left: &[LeftOpen], version: u32) -> OpenEnd
-    requires moves { AreMoves plan.now moves.now }
-    requires below { version < 4294967295 }
-    ensures { result ≡ spec.open_end plan.now left.now version }
+/// Counts the connection for its change.
+fn count_one(counts: &mut Vec<AwayCount>, c: &Away)
+    requires { (kept.count_at counts.old.items c.now.before).connections < 2 ^ 63 }
+    ensures length { length counts.new.items ≡ length counts.old.items }
+    ensures counts { kept.HaveOne c.now counts.old.items counts.new.items }
 {
-    let mut connections = 0;
-    let mut longest_idle = 0;
-    let mut rest = left;
+    let place = c.before as usize;
+    if place < counts.len() {
+        counts[place] = with_one(counts[place], c.idle);
+    }
+}
+
+/// The counts of this many changes.
+fn counts_of(alloc: Global, versions: u32, away: &[Away]) -> Result<Vec<AwayCount>, AllocError>
+    ensures length { IfOk result (λ counts. length counts.items ≡ versions) }
+    ensures counts { IfOk result (λ counts. kept.AreCounts counts.items away.now) }
+{
+    let none = AwayCount {
+        connections: 0,
+        longest_idle: 0,
+    };
+    let mut counts = vec![in alloc; none; versions as usize]?;
+    let mut rest = away;
     while let Some((first, others)) = rest.split_first() {
-        if is_moved_by(plan, moves, version, first) {
-            connections += 1;
-            longest_idle = first.idle.max(longest_idle);
-        }
+        count_one(&mut counts, first);
         rest = others;
     }
-    OpenEnd {
-        change: version + 1,
-        connections,
-        longest_idle,
-    }
+    Ok(counts)
 }
 
-/// Appends what a change does, if it moves any of them.
-fn push_if_any(ends: &mut Vec<OpenEnd>, end: OpenEnd) -> Result<(), AllocError>
-    ensures { OnOk result (ends.new.items ≡ ends.old.items ++ spec.open_end_if_any end) }
+/// Appends what a count says of the change after this version, if there are connections.
+fn push_if_any(ends: &mut Vec<OpenEnd>, version: u32, count: AwayCount) -> Result<(), AllocError>
+    requires { version < 4294967295 }
+    ensures { OnOk result (ends.new.items
+        ≡ ends.old.items ++ spec.open_end_if_any (kept.end_of version count)) }
 {
-    if end.connections > 0 {
-        ends.push(end)?;
+    if count.connections > 0 {
+        ends.push(OpenEnd {
+            change: version + 1,
+            connections: count.connections,
+            longest_idle: count.longest_idle,
+        })?;
     }
     Ok(())
 }
 
-/// What each change does that moves some of them.
-fn open_ends_by(
-    alloc: Global,
-    plan: &Plan,
-    moves: &Moves,
-    left: &[LeftOpen],
-) -> Result<Vec<OpenEnd>, AllocError>
-    requires { AreMoves plan.now moves.now }
-    ensures { IfOk result (λ ends. ends.items
-        ≡ spec.open_ends_by plan.now left.now (length plan.now.changes)) }
+/// Each of this many changes that some of these connections are away by.
+fn open_ends_by(alloc: Global, versions: u32, away: &[Away]) -> Result<Vec<OpenEnd>, AllocError>
+    ensures { IfOk result (λ ends. ends.items ≡ spec.open_ends_by away.now versions) }
 {
+    let counts = counts_of(alloc, versions, away)?;
     let mut ends = Vec::new(alloc);
-    for version in 0..plan.versions() {
-        push_if_any(&mut ends, open_end(plan, moves, left, version))?;
+    for version in 0..versions {
+        push_if_any(&mut ends, version, counts[version as usize])?;
     }
     Ok(ends)
 }
 
-/// Whether one of the plan's changes moves the connection.
-fn is_moved(plan: &Plan, moves: &Moves, c: &LeftOpen) -> bool
-    requires { AreMoves plan.now moves.now }
-    ensures { result ≡ spec.is_moved plan.now (length plan.now.changes) c.now }
-{
-    let mut moved = false;
-    for version in 0..plan.versions() {
-        moved = is_moved_by(plan, moves, version, c) || moved;
-    }
-    moved
-}
-
-/// How many of them one of the plan's changes moves.
-fn any_moved_count(plan: &Plan, moves: &Moves, left: &[LeftOpen]) -> u64
-    requires { AreMoves plan.now moves.now }
-    ensures { result ≡ spec.any_moved_count plan.now (length plan.now.changes) left.now }
-{
-    let mut count = 0;
-    let mut rest = left;
-    while let Some((first, others)) = rest.split_first() {
-        if is_moved(plan, moves, first) {
-            count += 1;
-        }
-        rest = others;
-    }
-    count
-}
-
-/// What the changes of the stage's plan do to the connections of this table that are left open. It
-/// takes time in proportion to the number of these times the number of changes. `Memory` where
-/// memory was refused.
+/// The connections of this table that are left open and away, by the changes of the stage's plan.
+/// For each it goes over the moves of its bucket since that left its server. `Memory` where memory
+/// was refused.
 pub fn open_ends(alloc: Global, stage: &Stage, table: &[Connection]) -> Result<OpenEnds, Memory>
     requires { HasRanges stage.now }
     ensures changes { IfOk result (λ ends. ends.changes ≡ spec.open_ends stage.now table.now) }
@@ -220,12 +208,11 @@ pub fn open_ends(alloc: Global, stage: &Stage, table: &[Connection]) -> Result<O
 {
     let plan = &stage.script.plan;
     let moves = Moves::new(alloc, plan)?;
-    let left = those_left_open(alloc, stage, table)?;
-    let changes = open_ends_by(alloc, plan, &moves, left.as_slice())?;
-    let connections = any_moved_count(plan, &moves, left.as_slice());
+    let away = those_away(alloc, &moves, stage, table)?;
+    let changes = open_ends_by(alloc, plan.versions(), away.as_slice())?;
     Ok(OpenEnds {
         changes: List::of(changes),
-        connections,
+        connections: away.len() as u64,
     })
 }
 

@@ -76,7 +76,7 @@ fn write_changes(
     Ok(())
 }
 
-/// A line for each change because of which packets were forwarded: how long after it, and by whom.
+/// A line for each change that packets were forwarded after: how long after it, and by whom.
 pub fn needed_changes_text(
     alloc: Global,
     clock: Clock,

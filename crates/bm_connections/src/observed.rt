@@ -11,13 +11,14 @@ ghost use Rattle.bm_trace.specs.Swept.{AreCauses};
 ghost use Rattle.bm_trace.specs.Totals as totals;
 ghost use Rattle.bm_connections.specs.Connections as spec;
 ghost use Rattle.bm_connections.specs.Inside.Closed.{AreClosed};
-ghost use Rattle.bm_connections.specs.Inside.Marks.{AreResets};
+ghost use Rattle.bm_connections.specs.Inside.Resets.{KnowsResets};
 ghost use Rattle.bm_connections.specs.Inside.Rows as kept;
 ghost use Rattle.bm_connections.specs.Seen.{records_of};
 ghost use Rattle.bm_connections.specs.Waits.{wait_of};
 
-use crate::closed::{close_all, observe_close};
+use crate::closed::observe_close;
 use crate::connection::{Break, Connection, Forwarding, Tally};
+use crate::endings::end_all;
 use crate::flow_set::FlowSet;
 use crate::resets::Resets;
 use crate::rows::Rows;
@@ -65,18 +66,17 @@ fn is_drop(verdict: Verdict) -> bool
     matches!(verdict, Verdict::Drop(_))
 }
 
-/// What is known of the packet of an arrival: how long it came after its bucket's move, whether it
-/// carries its connection's own RST or comes after it, and whether it has data or comes right after
-/// a packet with data.
+/// What is known about an arrival: how long it came after its bucket's move, whether it is a break
+/// that comes after its connection's end, and whether its packet concerns more than the farewell.
 #[derive(Clone, Copy)]
 pub(crate) struct Facts {
     pub(crate) wait: u64,
-    pub(crate) follows_reset: bool,
-    pub(crate) has_data: bool,
+    pub(crate) after_its_end: bool,
+    pub(crate) risks_data: bool,
 }
 
-/// The counts after an arrival with this verdict, which is a break or not, of a packet that follows
-/// its connection's RST or doesn't.
+/// The counts after an arrival with this verdict, which is a break or not, and is one that comes
+/// after its connection's end or not.
 fn tallied(verdict: Verdict, broke: bool, late: bool, t: &Tally) -> Tally
     requires { kept.HasRoom t.now }
     ensures { result ≡ kept.tallied verdict broke late t.now }
@@ -88,7 +88,7 @@ fn tallied(verdict: Verdict, broke: bool, late: bool, t: &Tally) -> Tally
         reset: one_more(is_reset(verdict), t.reset),
         dropped: one_more(is_drop(verdict), t.dropped),
         stray: one_more(is_process(verdict) && broke, t.stray),
-        after_its_end: one_more(broke && late, t.after_its_end),
+        after_its_end: one_more(late, t.after_its_end),
     }
 }
 
@@ -96,7 +96,7 @@ fn tallied(verdict: Verdict, broke: bool, late: bool, t: &Tally) -> Tally
 fn is_counted(arrival: &Break, facts: &Facts) -> bool
     ensures { result ≡ kept.is_counted arrival.now facts.now }
 {
-    arrival.cause.is_some() && !facts.follows_reset
+    arrival.cause.is_some() && !facts.after_its_end
 }
 
 /// What broke a connection first, after an arrival of one of its packets, which breaks it or not.
@@ -176,7 +176,7 @@ pub(crate) fn as_break(event: &Event, cause: Option<Cause>) -> Option<Break>
 }
 
 impl Connection {
-    /// Records an arrival of one of its packets, of which these facts are known.
+    /// Records an arrival of one of its packets, about which these facts are known.
     fn observe(&mut self, arrival: Break, facts: &Facts)
         requires { kept.HasRoom self.old.tally }
         ensures { self.new ≡ kept.observed arrival facts.now self.old }
@@ -184,9 +184,9 @@ impl Connection {
         let broke = arrival.cause.is_some();
         let breaks = is_counted(&arrival, facts) && self.server.is_some();
         self.broken = broken_after(self.broken, breaks, arrival);
-        self.losing_data = breaks && facts.has_data || self.losing_data;
+        self.losing_data = breaks && facts.risks_data || self.losing_data;
         self.server = server_after(&arrival, self.server);
-        self.tally = tallied(arrival.verdict, broke, facts.follows_reset, &self.tally);
+        self.tally = tallied(arrival.verdict, broke, facts.after_its_end, &self.tally);
         self.forwarded = forwarded_after(&arrival, facts.wait, self.forwarded);
         self.refused = refused_after(arrival, facts, self.server, self.refused);
     }
@@ -198,30 +198,32 @@ impl Rows {
         requires place { place < length self.old.connections.items }
         requires room { kept.HasRoomAt self.old.connections.items place }
         ensures places { self.new.places ≡ self.old.places }
-        ensures with_data { self.new.with_data ≡ self.old.with_data }
+        ensures risky { self.new.risky ≡ self.old.risky }
         ensures connections { self.new.connections.items
             ≡ kept.changed_at (kept.observed arrival facts.now) self.old.connections.items place }
     {
         self.connections[place].observe(arrival, facts);
     }
 
-    /// What is known of the packet of an arrival with this wait.
-    fn facts_of(&self, resets: &Resets, packet: u32, wait: u64) -> Facts
-        ensures { result ≡ kept.facts_of self.now resets.now packet wait }
+    /// What is known about the arrival of a packet with this wait, if it is a break that comes after
+    /// its connection's end or not.
+    fn facts_of(&self, late: bool, packet: u32, wait: u64) -> Facts
+        ensures { result ≡ kept.facts_of self.now late packet wait }
     {
         Facts {
             wait,
-            follows_reset: resets.has(packet),
-            has_data: self.has_data(packet),
+            after_its_end: late,
+            risks_data: self.risks_data(packet),
         }
     }
 
-    /// Records the event that comes next, with this cause and this wait.
-    fn observe(&mut self, resets: &Resets, event: &Event, cause: Option<Cause>, wait: u64)
+    /// Records the event that comes next, with this cause and this wait, which is a break that comes
+    /// after its connection's end or not.
+    fn observe(&mut self, late: bool, event: &Event, cause: Option<Cause>, wait: u64)
         requires { kept.HasRoomForEach self.old }
         ensures { (stage : Stage) (past : List Event)
             → kept.AreRows stage (records_of stage) past self.old
-            → AreResets (records_of stage) resets.now
+            → late ≡ spec.breaks_nothing stage past event.now.what
             → cause ≡ causes.cause stage past event.now.clock.0 event.now.what
             → is_some cause ≡ is_break stage past event.now.what
             → wait ≡ wait_of stage past event.now.clock.0 event.now.what
@@ -232,7 +234,7 @@ impl Rows {
             Some(arrival) => match self.place_of(arrival.packet) {
                 None => {}
                 Some(place) => {
-                    let facts = self.facts_of(resets, arrival.packet, wait);
+                    let facts = self.facts_of(late, arrival.packet, wait);
                     self.observe_arrival(place, arrival, &facts);
                 }
             },
@@ -240,11 +242,12 @@ impl Rows {
     }
 }
 
-/// Records all events, and which flows are closed after them.
+/// Records all events, and which flows are closed and which an RST has ended after them.
 fn observe_each(
     alloc: Global,
     rows: &mut Rows,
     closed: &mut FlowSet,
+    resets: &mut Resets,
     h: &History,
     causes: &CauseList,
 ) -> Result<(), Memory>
@@ -252,19 +255,23 @@ fn observe_each(
     requires causes { AreCauses h.now causes.now }
     requires rows { kept.AreRows h.now.stage (records_of h.now.stage) [] rows.old }
     requires closed { AreClosed h.now.stage [] closed.old }
+    requires resets { KnowsResets h.now.stage [] resets.old }
     ensures rows { OnOk result
         (kept.AreRows h.now.stage (records_of h.now.stage) (reverse h.now.events) rows.new) }
     ensures closed { OnOk result
         (AreClosed h.now.stage (reverse h.now.events) closed.new) }
+    ensures resets { OnOk result
+        (KnowsResets h.now.stage (reverse h.now.events) resets.new) }
 {
     let events = h.events.items();
-    let resets = Resets::of(alloc, h.stage.capture.records.items())?;
     let mut stamps = Stamps::new(alloc, &h.stage)?;
     for (place, event) in events.iter().enumerate() {
         let cause = causes.at(place);
+        let late = resets.discount(&h.stage, event, cause);
         let wait = stamps.wait(&h.stage, event);
-        rows.observe(&resets, event, cause, wait);
+        rows.observe(late, event, cause, wait);
         observe_close(closed, &h.stage, event)?;
+        resets.observe(&h.stage, event)?;
         stamps.observe(event.what)?;
     }
     Ok(())
@@ -284,8 +291,9 @@ pub(crate) fn observe_events(
 {
     let mut rows = rows;
     let mut closed = FlowSet::new(alloc);
-    observe_each(alloc, &mut rows, &mut closed, h, causes)?;
+    let mut resets = Resets::new(alloc);
+    observe_each(alloc, &mut rows, &mut closed, &mut resets, h, causes)?;
     let mut connections = rows.into_connections();
-    close_all(&mut connections, &closed);
+    end_all(&mut connections, &closed, &resets);
     Ok(connections)
 }

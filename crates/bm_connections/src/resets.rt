@@ -1,108 +1,138 @@
-//! The packets that carry their connection's own RST or come after it.
-ghost use Rattle.std.specs.Prelude.{◌≡◌, ◌∷◌, ◌++◌, [], Bool, Option, OnOk, IfOk, reverse, ℕ};
-ghost use Rattle.std.specs.Prelude.{List, is_some};
-ghost use Rattle.bm_base.specs.declared.capture.Record.{Record};
+//! The connections that an RST ended, and which breaks don't count since they come after that.
+ghost use Rattle.std.specs.Prelude.{◌≡◌, ◌∷◌, ◌||◌, [], OnOk, List, is_some};
 ghost use Rattle.bm_base.specs.declared.flow.Flow.{Flow};
-ghost use Rattle.bm_base.specs.Segments.{RST, has_flag};
 ghost use Rattle.bm_core.specs.Causes as causes;
+ghost use Rattle.bm_core.specs.Past as past;
 ghost use Rattle.bm_core.specs.declared.events.Event.{Event};
 ghost use Rattle.bm_core.specs.declared.events.Stage.{Stage};
 ghost use Rattle.bm_trace.specs.CauseOf.{is_break};
+ghost use Rattle.bm_trace.specs.Totals as totals;
 ghost use Rattle.bm_connections.specs.Connections as counting;
-ghost use Rattle.bm_connections.specs.Endings as spec;
 ghost use Rattle.bm_connections.specs.Inside.FlowSets.{is_in};
-ghost use Rattle.bm_connections.specs.Inside.Marks as kept;
-ghost use Rattle.bm_connections.specs.Seen.{records_of};
+ghost use Rattle.bm_connections.specs.Inside.Resets as kept;
 
-use crate::flow_set::FlowSet;
+use crate::flow_set::{FlowSet, Membership};
 use bm_base::flags::RST;
-use bm_base::{Body, Record, is_opening};
-use bm_core::{Cause, Event, What};
+use bm_base::{Flow, Segment, Taken, is_opening};
+use bm_core::{Cause, Event, Stage, Verdict, What};
 use std::alloc::{AllocError, Global};
 
-/// The mark of the packet of this number, counted from 1.
-pub(crate) fn mark_of(marks: &[bool], packet: u32) -> bool
-    ensures { result ≡ kept.mark_of marks.now packet }
+/// Whether an RST with this verdict ends its connection: the server gives it up, or doesn't hold it.
+fn ends_by_reset(verdict: Verdict) -> bool
+    ensures { result ≡ (past.ends verdict || totals.is_drop verdict) }
 {
-    if packet == 0 {
-        return false;
-    }
-    match marks.get(packet as usize - 1) {
-        Some(mark) => *mark,
-        None => false,
+    matches!(verdict, Verdict::Process(Taken::Ended) | Verdict::Drop(_))
+}
+
+/// The flow whose connection a segment with this verdict begins or ends, if it does.
+fn reset_by(segment: Option<Segment>, verdict: Verdict) -> Option<Membership>
+    ensures { result ≡ kept.reset_by segment verdict }
+{
+    let segment = segment?;
+    if is_opening(&segment) {
+        Some(Membership {
+            flow: segment.flow,
+            member: false,
+        })
+    } else if segment.has(RST) && ends_by_reset(verdict) {
+        Some(Membership {
+            flow: segment.flow,
+            member: true,
+        })
+    } else {
+        None
     }
 }
 
-/// Whether the record that comes next is a packet that carries RST or comes after its connection's
-/// own RST, if these are the flows whose connections an RST has ended.
-fn follows_reset(ended: &mut FlowSet, next: &Record) -> Result<bool, AllocError>
-    ensures mark { (records : List Record)
-        → ((f : Flow) → is_in ended.old f ≡ spec.has_since_opening (has_flag RST) records f)
-        → IfOk result (λ mark. mark ≡ spec.follows_reset next.now records) }
-    ensures ended { (records : List Record)
-        → ((f : Flow) → is_in ended.old f ≡ spec.has_since_opening (has_flag RST) records f)
-        → OnOk result ((f : Flow) → is_in ended.new f
-        ≡ spec.has_since_opening (has_flag RST) (next.now ∷ records) f) }
+/// The flow whose connection the event begins or ends, if it does.
+fn reset_of(stage: &Stage, what: What) -> Option<Membership>
+    ensures { result ≡ kept.reset_of stage.now what }
 {
-    match next.body {
-        Body::Unsteered(_) => Ok(false),
-        Body::Steerable(segment) => {
-            let ends = segment.has(RST);
-            let follows = ends || !is_opening(&segment) && ended.contains(&segment.flow);
-            ended.put(segment.flow, follows)?;
-            Ok(follows)
-        }
+    match what {
+        What::Arrive {
+            packet,
+            verdict,
+            ..
+        } => reset_by(stage.segment(packet), verdict),
+        _ => None,
     }
 }
 
-/// Which packets of a capture carry their connection's own RST or come after it.
+/// The flows whose connections an RST has ended, after some events.
 #[derive(Drop)]
 pub(crate) struct Resets {
-    /// For each record, in order.
-    marks: Vec<bool>,
+    ended: FlowSet,
 }
 
 impl Resets {
-    /// Those of these records.
-    pub(crate) fn of(alloc: Global, records: &[Record]) -> Result<Resets, AllocError>
-        ensures { IfOk result (λ resets. kept.AreResets (reverse records.now) resets) }
+    /// Before the first event.
+    pub(crate) fn new(alloc: Global) -> Resets
+        ensures { (stage : Stage) → kept.KnowsResets stage [] result }
     {
-        let mut ended = FlowSet::new(alloc);
-        let mut marks = Vec::with_capacity(alloc, records.len())?;
-        for record in records {
-            let mark = follows_reset(&mut ended, record)?;
-            marks.push(mark)?;
+        Resets {
+            ended: FlowSet::new(alloc),
         }
-        Ok(Resets { marks })
     }
 
-    /// Whether packet `packet` does.
-    pub(crate) fn has(&self, packet: u32) -> bool
-        ensures { result ≡ kept.mark_of self.now.marks.items packet }
+    /// Whether an RST has ended the connection of the flow.
+    pub(crate) fn has(&self, flow: &Flow) -> bool
+        ensures { result ≡ is_in self.now.ended flow.now }
     {
-        mark_of(self.marks.as_slice(), packet)
+        self.ended.contains(flow)
     }
 
-    /// Whether the event is an arrival of such a packet.
-    fn is_after_end(&self, what: What) -> bool
-        ensures { (stage : Stage) → kept.AreResets (records_of stage) self.now
-            → result ≡ counting.is_after_end stage what }
+    /// Records the event that comes next.
+    pub(crate) fn observe(&mut self, stage: &Stage, event: &Event) -> Result<(), AllocError>
+        ensures { (past : List Event) → kept.KnowsResets stage.now past self.old
+            → OnOk result (kept.KnowsResets stage.now (event.now ∷ past) self.new) }
+    {
+        self.ended.change(reset_of(stage, event.what))?;
+        Ok(())
+    }
+
+    /// Whether the segment carries RST, or doesn't open its flow after an RST has ended it.
+    fn follows_end(&self, segment: &Segment) -> bool
+        ensures { result ≡ kept.follows_end self.now segment.now }
+    {
+        segment.has(RST) || !is_opening(segment) && self.has(&segment.flow)
+    }
+
+    /// Whether the event that comes next is an arrival of such a segment.
+    fn is_after_end(&self, stage: &Stage, what: What) -> bool
+        ensures { (past : List Event) → kept.KnowsResets stage.now past self.now
+            → result ≡ counting.is_after_end stage.now past what }
     {
         match what {
-            What::Arrive { packet, .. } => self.has(packet),
+            What::Arrive { packet, .. } => match stage.segment(packet) {
+                None => false,
+                Some(segment) => self.follows_end(&segment),
+            },
             _ => false,
         }
     }
 
-    /// The cause of an event, if it counts.
-    pub(crate) fn counted(&self, event: &Event, cause: Option<Cause>) -> Option<Cause>
-        ensures { (stage : Stage) (past : List Event)
-            → kept.AreResets (records_of stage) self.now
-            → cause ≡ causes.cause stage past event.now.clock.0 event.now.what
-            → is_some cause ≡ is_break stage past event.now.what
-            → result ≡ counting.counted_cause stage past event.now }
+    /// Whether the event that comes next, which has this cause, is a break that doesn't count.
+    pub(crate) fn discount(&self, stage: &Stage, event: &Event, cause: Option<Cause>) -> bool
+        ensures { (past : List Event) → kept.KnowsResets stage.now past self.now
+            → is_some cause ≡ is_break stage.now past event.now.what
+            → result ≡ counting.breaks_nothing stage.now past event.now.what }
     {
-        if self.is_after_end(event.what) {
+        cause.is_some() && self.is_after_end(stage, event.what)
+    }
+
+    /// The cause of the event that comes next, if it counts.
+    pub(crate) fn counted(
+        &self,
+        stage: &Stage,
+        event: &Event,
+        cause: Option<Cause>,
+    ) -> Option<Cause>
+        ensures { (past : List Event) → kept.KnowsResets stage.now past self.now
+            → cause ≡ causes.cause stage.now past event.now.clock.0 event.now.what
+            → is_some cause ≡ is_break stage.now past event.now.what
+            → result ≡ counting.counted_cause stage.now past event.now }
+    {
+        if self.discount(stage, event, cause) {
             None
         } else {
             cause

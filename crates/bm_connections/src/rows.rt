@@ -2,14 +2,26 @@
 ghost use Rattle.std.specs.Prelude.{◌≡◌, ◌∷◌, ◌++◌, ◌<◌, [], false, length, Some, None, OnOk};
 ghost use Rattle.std.specs.Prelude.{reverse};
 ghost use Rattle.bm_connections.specs.declared.connection.Ending.TheVariants.{Open as opened};
-ghost use Rattle.bm_connections.specs.Inside.Marks.{mark_of};
+ghost use Rattle.bm_connections.specs.Inside.Marks as noted;
 ghost use Rattle.bm_connections.specs.Inside.Rows as kept;
 
 use crate::connection::{Connection, Ending, Sight, Tally};
-use crate::endings::{carries_data, ending_after, has_data_at};
-use crate::resets::mark_of;
+use crate::endings::{ending_after, has_data_at, is_risky};
 use bm_base::{Flow, Record, Segment};
 use std::alloc::{AllocError, Global};
+
+/// The mark of the packet of this number, counted from 1.
+fn mark_of(marks: &[bool], packet: u32) -> bool
+    ensures { result ≡ noted.mark_of marks.now packet }
+{
+    if packet == 0 {
+        return false;
+    }
+    match marks.get(packet as usize - 1) {
+        Some(mark) => *mark,
+        None => false,
+    }
+}
 
 /// No arrivals.
 const NONE: Tally = Tally {
@@ -56,20 +68,20 @@ impl Connection {
 pub(crate) struct Rows {
     /// For each record the place of its connection, if it is a packet of one.
     pub(crate) places: Vec<Option<usize>>,
-    /// For each record whether it is a packet with data or comes right after one.
-    pub(crate) with_data: Vec<bool>,
+    /// For each record whether data is lost if it isn't processed.
+    pub(crate) risky: Vec<bool>,
     pub(crate) connections: Vec<Connection>,
 }
 
 impl Rows {
     pub(crate) fn new(alloc: Global) -> Rows
         ensures places { result.places.items ≡ [] }
-        ensures with_data { result.with_data.items ≡ [] }
+        ensures risky { result.risky.items ≡ [] }
         ensures connections { result.connections.items ≡ [] }
     {
         Rows {
             places: Vec::new(alloc),
-            with_data: Vec::new(alloc),
+            risky: Vec::new(alloc),
             connections: Vec::new(alloc),
         }
     }
@@ -84,12 +96,12 @@ impl Rows {
     /// The next record isn't a packet of a connection.
     pub(crate) fn see_none(&mut self) -> Result<(), AllocError>
         ensures places { OnOk result (self.new.places.items ≡ self.old.places.items ++ None ∷ []) }
-        ensures with_data { OnOk result
-            (self.new.with_data.items ≡ self.old.with_data.items ++ false ∷ []) }
+        ensures risky { OnOk result
+            (self.new.risky.items ≡ self.old.risky.items ++ false ∷ []) }
         ensures connections { self.new.connections ≡ self.old.connections }
     {
         self.places.push(None)?;
-        self.with_data.push(false)?;
+        self.risky.push(false)?;
         Ok(())
     }
 
@@ -98,19 +110,19 @@ impl Rows {
         &mut self,
         segment: &Segment,
         sight: Sight,
-        has_data: bool,
+        risky: bool,
     ) -> Result<(), AllocError>
         ensures places { OnOk result (self.new.places.items
             ≡ self.old.places.items ++ Some (length self.old.connections.items) ∷ []) }
-        ensures with_data { OnOk result
-            (self.new.with_data.items ≡ self.old.with_data.items ++ has_data ∷ []) }
+        ensures risky { OnOk result
+            (self.new.risky.items ≡ self.old.risky.items ++ risky ∷ []) }
         ensures connections { OnOk result (self.new.connections.items
             ≡ self.old.connections.items
             ++ kept.seen_from segment.now.flow sight sight (kept.ending_after segment.now opened)
             ∷ []) }
     {
         self.places.push(Some(self.connections.len()))?;
-        self.with_data.push(has_data)?;
+        self.risky.push(risky)?;
         self.connections.push(seen_from(segment, sight))?;
         Ok(())
     }
@@ -121,39 +133,40 @@ impl Rows {
         place: usize,
         segment: &Segment,
         sight: Sight,
-        has_data: bool,
+        risky: bool,
     ) -> Result<(), AllocError>
         requires { place < length self.old.connections.items }
         ensures places { OnOk result (self.new.places.items
             ≡ self.old.places.items ++ Some place ∷ []) }
-        ensures with_data { OnOk result
-            (self.new.with_data.items ≡ self.old.with_data.items ++ has_data ∷ []) }
+        ensures risky { OnOk result
+            (self.new.risky.items ≡ self.old.risky.items ++ risky ∷ []) }
         ensures connections { OnOk result (self.new.connections.items
             ≡ kept.changed_at (kept.seen_again sight segment.now) self.old.connections.items
             place) }
     {
         self.places.push(Some(place))?;
-        self.with_data.push(has_data)?;
+        self.risky.push(risky)?;
         self.connections[place].see_again(segment, sight);
         Ok(())
     }
 
-    /// Whether the segment that comes after these records has data, or the last packet before it of
-    /// the connection at this place has.
-    pub(crate) fn is_with_data(&self, place: usize, before: &[Record], segment: &Segment) -> bool
+    /// Whether the segment that comes after these records concerns more than the farewell of the
+    /// connection at this place.
+    pub(crate) fn is_risky_at(&self, place: usize, before: &[Record], segment: &Segment) -> bool
         requires { place < length self.now.connections.items }
         ensures { result
-            ≡ kept.is_with_data self.now.connections.items place (reverse before.now)
+            ≡ kept.is_risky_at self.now.connections.items place (reverse before.now)
             segment.now }
     {
-        carries_data(segment) || has_data_at(before, self.connections[place].last.number)
+        let c = &self.connections[place];
+        is_risky(segment, has_data_at(before, c.last.number), c.ending)
     }
 
-    /// Whether the packet has data or comes right after one of its connection that has.
-    pub(crate) fn has_data(&self, packet: u32) -> bool
-        ensures { result ≡ mark_of self.now.with_data.items packet }
+    /// Whether data is lost if the packet isn't processed.
+    pub(crate) fn risks_data(&self, packet: u32) -> bool
+        ensures { result ≡ noted.mark_of self.now.risky.items packet }
     {
-        mark_of(self.with_data.as_slice(), packet)
+        mark_of(self.risky.as_slice(), packet)
     }
 
     /// The place of the packet's connection, if it has one.
@@ -170,7 +183,7 @@ impl Rows {
     {
         let Rows {
             places: _places,
-            with_data: _with_data,
+            risky: _risky,
             connections,
         } = self;
         connections

@@ -8,8 +8,8 @@ ghost use Rattle.bm_base.specs.Segments.{same_flow};
 ghost use Rattle.bm_core.specs.declared.events.Stage.{Stage};
 ghost use Rattle.bm_connections.specs.Inside.Rows.{AreRows, IsSeen};
 
-use crate::connection::Sight;
-use crate::endings::carries_data;
+use crate::connection::{Ending, Sight};
+use crate::endings::is_risky;
 use crate::rows::Rows;
 use bm_base::{Body, Flow, Record, Segment};
 use std::alloc::{AllocError, Global};
@@ -66,15 +66,15 @@ impl Seen {
         };
         match place_of(&self.flows, &flow) {
             Some(place) => {
-                let has_data = self.rows.is_with_data(place, before, &segment);
-                self.rows.see_again(place, &segment, sight, has_data)?;
+                let risky = self.rows.is_risky_at(place, before, &segment);
+                self.rows.see_again(place, &segment, sight, risky)?;
                 Ok(())
             }
             None => {
                 let place = self.rows.count();
                 put_place(&mut self.flows, flow, place)?;
-                self.rows
-                    .see_first(&segment, sight, carries_data(&segment))?;
+                let risky = is_risky(&segment, false, Ending::Open);
+                self.rows.see_first(&segment, sight, risky)?;
                 Ok(())
             }
         }

@@ -13,8 +13,8 @@ use bm_core::History;
 use bm_trace::CauseList;
 use std::alloc::Global;
 
-/// The changes because of which packets were forwarded, the third changes that came too soon, and
-/// the servers that retired too soon.
+/// The changes that packets were forwarded after, the third changes that came too soon, and the
+/// servers that retired too soon.
 #[derive(Drop)]
 pub struct Needs {
     pub changes: List<NeededChange>,

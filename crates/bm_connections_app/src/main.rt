@@ -1,7 +1,10 @@
-//! Makes the real files and standard output, and calls `beamer_connections` with the words of the
-//! command line.
+//! Makes the real files, standard output and standard error, and calls `beamer_connections` with
+//! the words of the command line.
 #![tactic(auto)]
 
+mod system;
+
+use crate::system::{StdErrors, StdReasons};
 use bm_connections_cli::beamer_connections;
 use bm_io::{StdFiles, StdSink};
 use std::env;
@@ -28,5 +31,16 @@ fn main(rt: HostRuntime) -> ExitCode {
     }
     let mut files = StdFiles::new(rt);
     let mut out = StdSink::new(rt);
-    ExitCode::from(beamer_connections(&rt, alloc, words.as_slice(), &mut files, &mut out))
+    let mut faults = StdErrors::new(rt);
+    let reasons = StdReasons::new(rt);
+    let status = beamer_connections(
+        &rt,
+        alloc,
+        words.as_slice(),
+        &mut files,
+        &mut out,
+        &mut faults,
+        &reasons,
+    );
+    ExitCode::from(status)
 }

@@ -5,7 +5,6 @@ pub mod Rows
 pub mod Pieces
 pub mod Numbered
 pub mod Told
-pub mod Seconds
 pub mod Outliving
 pub mod Replaying
 pub mod Choosing

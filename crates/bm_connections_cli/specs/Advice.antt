@@ -1,6 +1,6 @@
 -- What an operator may do about a cause (docs/OPERATING.md).
-use Rattle.std.specs.Prelude.{ℕ, ◌-◌, Bool, nat_lt, if◌then◌else◌, List, [], ◌∷◌, codes, ◌++◌}
-use Rattle.std.specs.Prelude.{Option, Some, None, length, ◌&&◌}
+use Rattle.std.specs.Prelude.{ℕ, zero, suc, ◌-◌, Bool, false, not, nat_lt, if◌then◌else◌, List, []}
+use Rattle.std.specs.Prelude.{◌∷◌, codes, ◌++◌, Option, Some, None, length, ◌&&◌}
 use Rattle.std.specs.List.{list_all, slice_get}
 use Rattle.bm_base.specs.declared.capture.Record.{Record}
 use Rattle.bm_base.specs.declared.ids.Moment.{Moment}
@@ -11,6 +11,8 @@ use Rattle.bm_core.specs.declared.events.Cause.TheVariants.{Full, OldTable}
 use Rattle.bm_core.specs.declared.events.Stage.{Stage}
 use Rattle.bm_core.specs.Past.{timeout}
 use Rattle.bm_table.specs.declared.plan.Change.{Change}
+use Rattle.bm_table.specs.Planned.{Planned}
+use Rattle.bm_table.specs.Tables.{next_change}
 use Rattle.bm_trace.specs.Words.{cause_word}
 use Rattle.bm_connections.specs.declared.connection.Connection.{Connection}
 
@@ -59,20 +61,39 @@ ends_within records timeout moment =
 abbrev pub last_change : List Change → Option Change
 last_change changes = slice_get changes (length changes - 1)
 
--- the line of advice if all records come before this change, or if it moves buckets and they come
--- before the timeout after it has passed
-abbrev pub end_text : List Record → ℕ → Option Change → List ℕ
-end_text records timeout None = []
-end_text records timeout (Some c) =
+-- there is a change, and it moves buckets
+abbrev pub moves_some : Option Change → Bool
+moves_some None = false
+moves_some (Some c) = nat_lt 0 (length c.moves)
+
+-- the last of the plan's first n changes that moves buckets
+abbrev pub last_moving : Planned → ℕ → Option Change
+last_moving plan zero = None
+last_moving plan (suc v) =
+    if moves_some (next_change plan v) then next_change plan v else last_moving plan v
+
+-- the line of advice if all records come before this change
+abbrev pub early_end : List Record → Option Change → List ℕ
+early_end records None = []
+early_end records (Some c) =
     if ends_before records c.moment
     then codes "advice change-after-the-end: the capture ends before the last change; "
     ++ codes "lower its at_ns, or capture longer\n"
-    else if nat_lt 0 (length c.moves) && ends_within records timeout c.moment
-    then codes "advice timeout-after-the-end: the capture ends before timeout_s has passed since "
-    ++ codes "the last change; capture longer, to see what comes too late\n"
     else []
 
--- the same for the stage's last change and its timeout
-abbrev pub end_line : Stage → List ℕ
-end_line stage =
-    end_text stage.capture.records (timeout stage) (last_change stage.script.plan.changes)
+-- the line of advice if some records don't come before this change, but all before the timeout
+-- after it has passed
+abbrev pub timeout_end : List Record → ℕ → Option Change → List ℕ
+timeout_end records timeout None = []
+timeout_end records timeout (Some c) =
+    if not (ends_before records c.moment) && ends_within records timeout c.moment
+    then codes "advice timeout-after-the-end: the capture ends before timeout_s has passed since "
+    ++ codes "buckets last moved; capture longer, to see what comes too late\n"
+    else []
+
+-- the first for the stage's last change, and the second for its last that moves buckets
+abbrev pub end_lines : Stage → List ℕ
+end_lines stage =
+    early_end stage.capture.records (last_change stage.script.plan.changes)
+    ++ timeout_end stage.capture.records (timeout stage)
+    (last_moving stage.script.plan (length stage.script.plan.changes))

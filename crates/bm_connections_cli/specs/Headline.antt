@@ -5,10 +5,10 @@ use Rattle.bm_core.specs.declared.events.Stage.{Stage}
 use Rattle.bm_cli.specs.declared.mode.Mode.TheVariants.{Replay}
 use Rattle.bm_cli.specs.Headline.{IsMadeBy}
 use Rattle.bm_connections.specs.Base.{base_of}
-use Rattle.bm_connections_cli.specs.declared.words.Format.{Format}
+use Rattle.bm_connections_words.specs.declared.options.Format.{Format}
 use Rattle.bm_connections_cli.specs.Stories.{stories}
 use Rattle.bm_connections_cli.specs.Text.{text}
-use Rattle.bm_connections_cli.specs.Words.{Chosen}
+use Rattle.bm_connections_words.specs.Options.{Chosen}
 
 -- a replay of the stage: a run that follows its script to the end, and in which every packet is
 -- accounted for

@@ -1,6 +1,9 @@
 pub mod Top
 pub mod Program
 pub mod Dues
+pub mod Help
+pub mod Faults
+pub mod Sinks
 pub mod Stories
 pub mod Headline
 pub mod Text
@@ -12,5 +15,4 @@ pub mod Changes
 pub mod Outlived
 pub mod Replies
 pub mod Lifetime
-pub mod Words
 pub mod Inside

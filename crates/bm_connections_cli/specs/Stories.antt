@@ -10,7 +10,7 @@ use Rattle.bm_connections.specs.declared.connection.Connection.{Connection}
 use Rattle.bm_connections.specs.Base.{compared}
 use Rattle.bm_connections.specs.Story.{story}
 use Rattle.bm_connections.specs.Text.{connection_line}
-use Rattle.bm_connections_cli.specs.Words.{Chosen}
+use Rattle.bm_connections_words.specs.Options.{Chosen}
 
 -- the connection is to this service, if there is one
 abbrev pub is_to : Option (List ℕ) → Connection → Bool

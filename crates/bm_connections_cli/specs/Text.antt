@@ -19,10 +19,10 @@ use Rattle.bm_connections.specs.Answers.{answer_line, answer_of}
 use Rattle.bm_connections.specs.Text.{cause_line, late_text, server_line, table_text}
 use Rattle.bm_drawing.specs.Drawing.{drawing}
 use Rattle.bm_lifetime.specs.Lifetime.{lifetime}
-use Rattle.bm_connections_cli.specs.declared.words.Format.{Format}
-use Rattle.bm_connections_cli.specs.declared.words.Format.TheVariants.{Lines, Csv, Json, Svg}
+use Rattle.bm_connections_words.specs.declared.options.Format.{Format}
+use Rattle.bm_connections_words.specs.declared.options.Format.TheVariants.{Lines, Csv, Json, Svg}
 use Rattle.bm_connections_cli.specs.Replies.{replies_text}
-use Rattle.bm_connections_cli.specs.Advice.{advice_line, end_line, nothing_line, open_line}
+use Rattle.bm_connections_cli.specs.Advice.{advice_line, end_lines, nothing_line, open_line}
 use Rattle.bm_connections_cli.specs.Changes.{changes_text}
 use Rattle.bm_connections_cli.specs.Outlived.{outlived_text}
 use Rattle.bm_connections_cli.specs.Csv.{table_csv}
@@ -83,7 +83,7 @@ advice_parts h = advice_lines h ∷ open_line (open_count h.stage (connections h
 -- what to do about the capture
 abbrev pub capture_advice : History → List (List ℕ)
 capture_advice h =
-    copies_text (copies h.stage.capture) ∷ nothing_line (connections h) ∷ end_line h.stage ∷ []
+    copies_text (copies h.stage.capture) ∷ nothing_line (connections h) ∷ end_lines h.stage ∷ []
 
 -- what became of connections, servers and changes
 abbrev pub outcome_parts : Option ℕ → History → List Compared → List (List ℕ)

@@ -1,5 +1,5 @@
 //! What an operator may do about the causes that occur.
-ghost use Rattle.std.specs.Prelude.{◌≡◌, ◌++◌, IfOk, OnOk, Some, flat_map, string_bytes};
+ghost use Rattle.std.specs.Prelude.{◌≡◌, ◌++◌, length, IfOk, OnOk, Some, flat_map, string_bytes};
 ghost use Rattle.std.specs.Option.{option_copied};
 ghost use Rattle.bm_connections_cli.specs.Advice as spec;
 
@@ -110,42 +110,89 @@ fn last_change(plan: &Plan) -> Option<&Change>
     plan.next_change(Version(plan.versions().saturating_sub(1)))
 }
 
-/// A line of advice if the capture ends before the script's last change, or if this moves buckets
-/// before the timeout after it has passed.
+/// Whether there is a change, and it moves buckets.
+fn moves_some(change: Option<&Change>) -> bool
+    ensures { result ≡ spec.moves_some (option_copied change.entry) }
+{
+    match change {
+        None => false,
+        Some(change) => change.moves.items().len() > 0,
+    }
+}
+
+/// The plan's last change that moves buckets. Takes time in proportion to the changes after it.
+fn last_moving(plan: &Plan) -> Option<&Change>
+    ensures { option_copied result
+        ≡ spec.last_moving plan.now (length plan.now.changes) }
+{
+    let mut version = plan.versions();
+    while version > 0 {
+        version -= 1;
+        let change = plan.next_change(Version(version));
+        if moves_some(change) {
+            return change;
+        }
+    }
+    None
+}
+
+/// Lines of advice if the capture ends before the script's last change, and if it ends before the
+/// timeout after the last change that moves buckets has passed.
 pub(crate) fn end_text(alloc: Global, stage: &Stage) -> Result<Text, Memory>
-    ensures { IfOk result (λ text. text ≡ spec.end_line stage.now) }
+    ensures { IfOk result (λ text. text ≡ spec.end_lines stage.now) }
 {
     let records = stage.capture.records.items();
-    let timeout = stage.script.setting.timeout;
+    let plan = &stage.script.plan;
     let mut text = String::new(alloc);
-    if let Some(change) = last_change(&stage.script.plan) {
-        write_end(&mut text, records, timeout, change)?;
-    }
+    write_early_end(&mut text, records, last_change(plan))?;
+    write_timeout_end(
+        &mut text,
+        records,
+        stage.script.setting.timeout,
+        last_moving(plan),
+    )?;
     Ok(Text::of(text))
 }
 
-fn write_end(
+fn write_early_end(
     text: &mut String,
     records: &[Record],
-    timeout: u64,
-    change: &Change,
+    change: Option<&Change>,
 ) -> Result<(), AllocError>
     ensures { OnOk result (string_bytes text.new
-        ≡ string_bytes text.old ++ spec.end_text records.now timeout (Some change.now)) }
+        ≡ string_bytes text.old ++ spec.early_end records.now (option_copied change.entry)) }
 {
+    let Some(change) = change else {
+        return Ok(());
+    };
     if ends_before(records, change.moment) {
         writeln!(
             text,
             "advice change-after-the-end: the capture ends before the last change; lower its \
             at_ns, or capture longer"
-        )
-    } else if !change.moves.items().is_empty() && ends_within(records, timeout, change.moment) {
+        )?;
+    }
+    Ok(())
+}
+
+fn write_timeout_end(
+    text: &mut String,
+    records: &[Record],
+    timeout: u64,
+    change: Option<&Change>,
+) -> Result<(), AllocError>
+    ensures { OnOk result (string_bytes text.new ≡ string_bytes text.old
+        ++ spec.timeout_end records.now timeout (option_copied change.entry)) }
+{
+    let Some(change) = change else {
+        return Ok(());
+    };
+    if !ends_before(records, change.moment) && ends_within(records, timeout, change.moment) {
         writeln!(
             text,
             "advice timeout-after-the-end: the capture ends before timeout_s has passed since \
-            the last change; capture longer, to see what comes too late"
-        )
-    } else {
-        Ok(())
+            buckets last moved; capture longer, to see what comes too late"
+        )?;
     }
+    Ok(())
 }

@@ -5,19 +5,22 @@
 
 mod advice;
 mod changes;
+mod faults;
 mod fields;
 mod findings;
+mod help;
 mod json;
 mod lifetime;
 mod outlived;
 mod parts;
 mod put;
+mod reason;
 mod replays;
 mod replies;
 mod servers;
 mod stories;
 mod tell;
 mod top;
-mod words;
 
+pub use reason::{Reason, Reasons};
 pub use top::beamer_connections;

@@ -4,6 +4,7 @@ ghost use Rattle.bm_table.specs.Scripts.{IsSoundScript};
 ghost use Rattle.bm_cli.specs.Statuses.{did};
 ghost use Rattle.bm_cli.specs.Telling.{Tells};
 ghost use Rattle.bm_connections_cli.specs.Lifetime as spec;
+ghost use Rattle.bm_connections_cli.specs.Inside.Ends.{no_lines};
 ghost use Rattle.bm_connections_cli.specs.Inside.Lifetime.{status_for};
 
 use bm_base::{Memory, Text};
@@ -28,7 +29,7 @@ pub(crate) fn tell_lifetime<K: Sink>(
     out: &mut K,
 ) -> Status
     requires { IsSoundScript script.now }
-    ensures { Tells (spec.lifetime_answer seconds script.now)
+    ensures { Tells no_lines (spec.lifetime_answer seconds script.now)
         (did K.written K.faults out.old out.new) result }
 {
     let Ok(life) = lifetime(alloc, script) else {

@@ -8,7 +8,7 @@ ghost use Rattle.bm_connections.specs.Connections as tables;
 ghost use Rattle.bm_drawing.specs.Drawing as draw;
 ghost use Rattle.bm_connections_cli.specs.Inside.Findings.{AreFindings};
 ghost use Rattle.bm_connections_cli.specs.Text as spec;
-ghost use Rattle.bm_connections_cli.specs.declared.words.Format.TheVariants.{Csv, Json};
+ghost use Rattle.bm_connections_words.specs.declared.options.Format.TheVariants.{Csv, Json};
 
 use crate::advice::{advice_text, end_text, nothing_text, open_text};
 use crate::changes::changes_text;

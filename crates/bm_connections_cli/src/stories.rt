@@ -8,15 +8,15 @@ ghost use Rattle.bm_trace.specs.Words.{endpoint, line};
 ghost use Rattle.bm_cli.specs.Statuses.{Writes, did};
 ghost use Rattle.bm_connections.specs.Base.{compared_with};
 ghost use Rattle.bm_connections.specs.Connections as tables;
-ghost use Rattle.bm_connections_cli.specs.Inside.Words.{chosen};
+ghost use Rattle.bm_connections_words.specs.Options.{chosen};
 ghost use Rattle.bm_connections_cli.specs.Stories as spec;
 
-use crate::words::Chosen;
 use bm_base::{Memory, Text};
 use bm_cli::{Status, say};
 use bm_connections::{
     Clock, Compared, Connection, compare_one, connections, story_text, write_connection,
 };
+use bm_connections_words::Chosen;
 use bm_core::History;
 use bm_io::Sink;
 use bm_trace::{CauseList, Endpoint, sweep};

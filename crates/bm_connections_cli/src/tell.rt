@@ -6,14 +6,14 @@ ghost use Rattle.bm_connections.specs.Base.{compared_with};
 ghost use Rattle.bm_connections.specs.Connections.{connections};
 ghost use Rattle.bm_drawing.specs.Drawing.{drawing};
 ghost use Rattle.bm_connections_cli.specs.Text.{report};
-ghost use Rattle.bm_connections_cli.specs.declared.words.Format.TheVariants as in_format;
+ghost use Rattle.bm_connections_words.specs.declared.options.Format.TheVariants as in_format;
 
 use crate::parts::{drawing_of, fields_of, lines_of, values_of};
 use crate::put::put_parts;
-use crate::words::Format;
 use bm_base::{Memory, Text};
 use bm_cli::{Status, say};
 use bm_connections::Clock;
+use bm_connections_words::Format;
 use bm_core::History;
 use bm_io::{IoFault, Sink};
 use std::alloc::Global;

@@ -3,27 +3,32 @@ ghost use Rattle.std.specs.Prelude.{◌≡◌, ◌<◌, ◌≤◌, if◌then◌e
 ghost use Rattle.bm_core.specs.Stages.{IsSound};
 ghost use Rattle.bm_link.specs.Fits.{ArePackets};
 ghost use Rattle.bm_words.specs.Form.{named};
-ghost use Rattle.bm_cli.specs.Dues.{Misused, Shown};
-ghost use Rattle.bm_cli.specs.Ends.{Ends};
+ghost use Rattle.bm_cli.specs.Dues.{Shown};
 ghost use Rattle.bm_cli.specs.Program.{IsProgram};
 ghost use Rattle.bm_cli.specs.Reading.{Holds};
 ghost use Rattle.bm_cli.specs.Statuses.{did};
 ghost use Rattle.bm_cli.specs.Telling.{Tells};
 ghost use Rattle.bm_cli.specs.Top.{AsksNone, ShowsAnswer};
-ghost use Rattle.bm_connections_cli.specs.Dues.{due, due_of, usage_line};
+ghost use Rattle.bm_connections_cli.specs.Dues.{IsShownBy, due};
 ghost use Rattle.bm_connections_cli.specs.Headline.{AreStoriesOf, IsTableOf};
 ghost use Rattle.bm_connections_cli.specs.Program.{beamer_connections};
-ghost use Rattle.bm_connections_cli.specs.Words.{Connections, Lifetime, Story, form_in};
-ghost use Rattle.bm_connections_cli.specs.Inside.Words.{asked, chosen};
+ghost use Rattle.bm_connections_cli.specs.Sinks.{HoldsOfOne};
+ghost use Rattle.bm_connections_words.specs.Words.{Connections, Lifetime, form_in};
+ghost use Rattle.bm_connections_cli.specs.Inside.Ends.{EndsForm, no_lines};
+ghost use Rattle.bm_connections_words.specs.Options.{chosen, said};
+ghost use Rattle.bm_connections_words.specs.Words.{asked};
 
+use crate::faults::{file_with, refuse};
+use crate::help::{help, misuse, version};
 use crate::lifetime::tell_lifetime;
+use crate::reason::Reasons;
 use crate::replays::replay_both;
 use crate::stories::tell_stories;
 use crate::tell::tell;
-use crate::words::{Chosen, Form, Format, Manner, read_words};
 use bm_base::{Memory, Octets};
-use bm_cli::{Mode, Status, read_named_script, read_stage, refuse, say};
+use bm_cli::{Mode, Status, read_named_script, read_stage};
 use bm_connections::Clock;
+use bm_connections_words::{Chosen, Form, Format, Options, read_words};
 use bm_core::Stage;
 use bm_io::{Files, Sink};
 use bm_words::Names;
@@ -31,32 +36,36 @@ use std::alloc::Global;
 use std::sync::Wait;
 use std::thread::Threads;
 
-const USAGE: &str =
-    "usage: beamer-connections CAPTURE SCRIPT [--csv | --json | --svg] [--clock] | CAPTURE SCRIPT --of CLIENT [SERVICE] [--clock] | --lifetime SCRIPT [--for SECONDS]\n";
-
-/// Does all that the program does, and returns the status.
+/// Does all that the program does, and returns the status. What is asked for goes to `out`, a usage
+/// line or the line of a fault to `faults`. The line of a read that failed has what `reasons`
+/// answers.
 ///
 /// 0: the connections or the lines of a lifetime were written. 1: the words fit no form. 2: the files
 /// failed. 3: the capture has a fault. 4: the script has a fault. 5: the sink failed. 6: memory was
 /// refused. 7: a limit is exceeded. 9: the lines of a lifetime were written, which is shorter than
 /// the words ask for.
-pub fn beamer_connections<R: Threads + Wait + Sync, F: Files, K: Sink>(
+pub fn beamer_connections<R: Threads + Wait + Sync, F: Files, K: Sink, E: Sink, Q: Reasons>(
     rt: &R,
     alloc: Global,
     words: &[String],
     files: &mut F,
     out: &mut K,
+    faults: &mut E,
+    reasons: &Q,
 ) -> u8
     requires room { F.open_now files.old ≤ 1000 }
     // On status 0 what was written reports the connections of the replay of the named capture
-    // through the servers of the named script, or the lifetime of the named script.
+    // through the servers of the named script, or the lifetime of the named script; or it is the
+    // help or the version.
     ensures shown { result ≡ 0 → Holds (F.octets files.old) (λ reads.
         ShowsAnswer (due (form_in words.now) reads).answer
         (K.written out.old) (K.written out.new)) }
-    // What each status means: which text was written, and which files were asked for.
-    ensures program { IsProgram beamer_connections (form_in words.now) (F.octets files.old)
-        (did F.asked F.faults files.old files.new)
-        (did K.written K.faults out.old out.new) result }
+    // What each status means: to which sink which text was written, and which files were asked for.
+    ensures program { HoldsOfOne (λ sink.
+        IsProgram beamer_connections (form_in words.now) (F.octets files.old)
+        (did F.asked F.faults files.old files.new) sink result)
+        (did K.written K.faults out.old out.new)
+        (did E.written E.faults faults.old faults.new) result }
     // If no file is asked for, the files are left as they are.
     ensures unasked { AsksNone (due (form_in words.now)) → files.new ≡ files.old }
     // The files' octets are the same as before. No source stays open, and none is closed that was
@@ -64,102 +73,116 @@ pub fn beamer_connections<R: Threads + Wait + Sync, F: Files, K: Sink>(
     ensures octets { F.octets files.new ≡ F.octets files.old }
     ensures open { F.open_now files.new ≡ F.open_now files.old }
 {
-    answer(rt, alloc, words, files, out).code()
+    answer(rt, alloc, words, files, out, faults, reasons).code()
 }
 
 /// Does what the words ask for.
-fn answer<R: Threads + Wait + Sync, F: Files, K: Sink>(
+fn answer<R: Threads + Wait + Sync, F: Files, K: Sink, E: Sink, Q: Reasons>(
     rt: &R,
     alloc: Global,
     words: &[String],
     files: &mut F,
     out: &mut K,
+    faults: &mut E,
+    reasons: &Q,
 ) -> Status
     requires room { F.open_now files.old < 4294967295 }
-    ensures ends { Holds (F.octets files.old) (λ reads.
-        Ends (due (form_in words.now) reads) (did F.asked F.faults files.old files.new)
-        (did K.written K.faults out.old out.new) result) }
+    ensures ends { EndsForm (form_in words.now) (F.octets files.old)
+        (did F.asked F.faults files.old files.new)
+        (did K.written K.faults out.old out.new)
+        (did E.written E.faults faults.old faults.new) result }
     ensures unasked { AsksNone (due (form_in words.now)) → files.new ≡ files.old }
     ensures octets { F.octets files.new ≡ F.octets files.old }
     ensures open { F.open_now files.new ≡ F.open_now files.old }
 {
     match read_words(words) {
-        Some(form) => answer_form(rt, alloc, form, files, out),
-        None => misuse(out),
+        Some(form) => answer_form(rt, alloc, form, files, out, faults, reasons),
+        None => misuse(faults),
     }
 }
 
 /// Does what the words ask for, if they fit a form.
-fn answer_form<R: Threads + Wait + Sync, F: Files, K: Sink>(
+fn answer_form<R: Threads + Wait + Sync, F: Files, K: Sink, E: Sink, Q: Reasons>(
     rt: &R,
     alloc: Global,
     form: Form<'_>,
     files: &mut F,
     out: &mut K,
+    faults: &mut E,
+    reasons: &Q,
 ) -> Status
     requires room { F.open_now files.old < 4294967295 }
-    ensures ends { Holds (F.octets files.old) (λ reads.
-        Ends (due_of (asked form.entry) reads) (did F.asked F.faults files.old files.new)
-        (did K.written K.faults out.old out.new) result) }
+    ensures ends { EndsForm (Some (asked form.entry)) (F.octets files.old)
+        (did F.asked F.faults files.old files.new)
+        (did K.written K.faults out.old out.new)
+        (did E.written E.faults faults.old faults.new) result }
+    ensures unasked { AsksNone (due (Some (asked form.entry))) → files.new ≡ files.old }
     ensures octets { F.octets files.new ≡ F.octets files.old }
     ensures open { F.open_now files.new ≡ F.open_now files.old }
 {
     match form {
-        Form::Connections { manner, names } => report(rt, alloc, manner, names, files, out),
-        Form::Story { chosen, names } => recount(rt, alloc, chosen, names, files, out),
-        Form::Lifetime { script, seconds } => explain(alloc, script, seconds, files, out),
+        Form::Connections { names, options } => {
+            report(rt, alloc, names, options, files, out, faults, reasons)
+        }
+        Form::Lifetime { script, seconds } => {
+            explain(alloc, script, seconds, files, out, faults, reasons)
+        }
+        Form::Help => help(alloc, out),
+        Form::Version => version(out),
     }
 }
 
-/// Replays the named capture and script, and writes the report of its connections.
-fn report<R: Threads + Wait + Sync, F: Files, K: Sink>(
+/// Replays the named capture and script, and writes what the options say of its connections.
+fn report<R: Threads + Wait + Sync, F: Files, K: Sink, E: Sink, Q: Reasons>(
     rt: &R,
     alloc: Global,
-    manner: Manner,
     names: Names<'_>,
+    options: Options<'_>,
     files: &mut F,
     out: &mut K,
+    faults: &mut E,
+    reasons: &Q,
 ) -> Status
     requires room { F.open_now files.old < 4294967295 }
-    ensures ends { Holds (F.octets files.old) (λ reads.
-        Ends (due_of (Connections manner (named names.entry)) reads)
-        (did F.asked F.faults files.old files.new)
-        (did K.written K.faults out.old out.new) result) }
+    ensures ends { EndsForm (Some (Connections (named names.entry) (said options.entry)))
+        (F.octets files.old) (did F.asked F.faults files.old files.new)
+        (did K.written K.faults out.old out.new)
+        (did E.written E.faults faults.old faults.new) result }
     ensures octets { F.octets files.new ≡ F.octets files.old }
     ensures open { F.open_now files.new ≡ F.open_now files.old }
 {
+    let (capture, script) = (names.capture, names.script);
     match read_stage(alloc, files, Mode::Replay, names) {
         Ok((stage, packets, began)) => {
-            let clock = clock_of(manner.clock, began);
-            show(rt, alloc, manner.format, clock, stage, packets, out)
+            let clock = clock_of(options.clock, began);
+            show(rt, alloc, options, clock, stage, packets, out)
         }
-        Err(fault) => refuse(alloc, &fault, out),
+        Err(fault) => {
+            let name = file_with(capture, script, &fault);
+            refuse(alloc, name, &fault, faults, reasons)
+        }
     }
 }
 
-/// Replays the named capture and script, and writes the stories of the connections that are picked.
-fn recount<R: Threads + Wait + Sync, F: Files, K: Sink>(
+/// Replays the stage and its base, and writes what the options say of the connections. `packets` has
+/// the packet of each record.
+fn show<R: Threads + Wait + Sync, K: Sink>(
     rt: &R,
     alloc: Global,
-    picked: Chosen<'_>,
-    names: Names<'_>,
-    files: &mut F,
+    options: Options<'_>,
+    clock: Clock,
+    stage: Stage,
+    packets: Octets,
     out: &mut K,
 ) -> Status
-    requires room { F.open_now files.old < 4294967295 }
-    ensures ends { Holds (F.octets files.old) (λ reads.
-        Ends (due_of (Story (chosen picked.entry) (named names.entry)) reads)
-        (did F.asked F.faults files.old files.new)
-        (did K.written K.faults out.old out.new) result) }
-    ensures octets { F.octets files.new ≡ F.octets files.old }
-    ensures open { F.open_now files.new ≡ F.open_now files.old }
+    requires sound { IsSound stage }
+    requires packets { ArePackets stage.capture.records packets }
+    ensures { Tells no_lines (Shown (IsShownBy (said options.entry) clock.0 stage))
+        (did K.written K.faults out.old out.new) result }
 {
-    match read_stage(alloc, files, Mode::Replay, names) {
-        Ok((stage, packets, began)) => {
-            let clock = clock_of(picked.clock, began);
-            show_stories(rt, alloc, picked, clock, stage, packets, out)
-        }
-        Err(fault) => refuse(alloc, &fault, out),
+    match options.chosen {
+        Some(picked) => show_stories(rt, alloc, picked, clock, stage, packets, out),
+        None => show_table(rt, alloc, options.format(), clock, stage, packets, out),
     }
 }
 
@@ -176,7 +199,7 @@ fn show_stories<R: Threads + Wait + Sync, K: Sink>(
 ) -> Status
     requires sound { IsSound stage }
     requires packets { ArePackets stage.capture.records packets }
-    ensures { Tells (Shown (AreStoriesOf (chosen picked.entry) clock.0 stage))
+    ensures { Tells no_lines (Shown (AreStoriesOf (chosen picked.entry) clock.0 stage))
         (did K.written K.faults out.old out.new) result }
 {
     match replay_both(rt, alloc, stage, packets) {
@@ -193,29 +216,32 @@ fn show_stories<R: Threads + Wait + Sync, K: Sink>(
 }
 
 /// Reads the named script, and writes its lifetime.
-fn explain<F: Files, K: Sink>(
+fn explain<F: Files, K: Sink, E: Sink, Q: Reasons>(
     alloc: Global,
     name: &str,
     seconds: Option<u32>,
     files: &mut F,
     out: &mut K,
+    faults: &mut E,
+    reasons: &Q,
 ) -> Status
     requires room { F.open_now files.old < 4294967295 }
-    ensures ends { Holds (F.octets files.old) (λ reads.
-        Ends (due_of (Lifetime name.now seconds) reads) (did F.asked F.faults files.old files.new)
-        (did K.written K.faults out.old out.new) result) }
+    ensures ends { EndsForm (Some (Lifetime name.now seconds)) (F.octets files.old)
+        (did F.asked F.faults files.old files.new)
+        (did K.written K.faults out.old out.new)
+        (did E.written E.faults faults.old faults.new) result }
     ensures octets { F.octets files.new ≡ F.octets files.old }
     ensures open { F.open_now files.new ≡ F.open_now files.old }
 {
     match read_named_script(alloc, files, name) {
         Ok(script) => tell_lifetime(alloc, &script, seconds, out),
-        Err(fault) => refuse(alloc, &fault, out),
+        Err(fault) => refuse(alloc, name, &fault, faults, reasons),
     }
 }
 
 /// Replays the stage and its base, and writes the report of the connections. `packets` has the
 /// packet of each record.
-fn show<R: Threads + Wait + Sync, K: Sink>(
+fn show_table<R: Threads + Wait + Sync, K: Sink>(
     rt: &R,
     alloc: Global,
     format: Format,
@@ -226,7 +252,7 @@ fn show<R: Threads + Wait + Sync, K: Sink>(
 ) -> Status
     requires sound { IsSound stage }
     requires packets { ArePackets stage.capture.records packets }
-    ensures { Tells (Shown (IsTableOf format clock.0 stage))
+    ensures { Tells no_lines (Shown (IsTableOf format clock.0 stage))
         (did K.written K.faults out.old out.new) result }
 {
     match replay_both(rt, alloc, stage, packets) {
@@ -252,11 +278,4 @@ fn clock_of(asked: bool, began: u64) -> Clock
     } else {
         Clock(None)
     }
-}
-
-/// Writes the usage line.
-fn misuse<K: Sink>(out: &mut K) -> Status
-    ensures { Tells (Misused usage_line) (did K.written K.faults out.old out.new) result }
-{
-    say(out, USAGE.as_bytes(), Status::Usage)
 }

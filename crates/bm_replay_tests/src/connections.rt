@@ -133,7 +133,7 @@ static CASES: [Case; 7] = [
                last 3 at 200.000000000 \
                accepted 1 times 1 processed 0 forwarded 0 dropped 0 reset 2 stray 0 \
                after-its-end 0 end close \
-               broken 2 reset no-previous because not-held at 100.000000002 anyway\n",
+               broken 2 reset no-previous because not-held at 100.000000002 anyway losing-data\n",
     },
 ];
 

@@ -163,18 +163,38 @@ fn outcome(
         sink: MemSink::new(alloc, Vec::from_slice(alloc, writes)?),
     };
     let fakes = fakes(case, device, &calls);
-    let (status, open) = run_fakes(rt, alloc, case.called.call, STEP, &fakes, &mut out)?;
-    let is_due = is_due(case.called.text, device, call, status, out.sink.written());
-    Ok((status, open, is_due))
+    let mut faults = MemSink::new(alloc, Vec::new(alloc));
+    let sinks = (&mut out, &mut faults);
+    let (status, open) = run_fakes(rt, alloc, case.called.call, STEP, &fakes, sinks, None)?;
+    let written = (out.sink.written(), faults.written());
+    Ok((status, open, is_due(case, device, call, status, written)))
 }
 
-/// Whether this is what is written where the program ends with this status.
-fn is_due(text: Text, device: Device, call: u32, status: u8, written: &[u8]) -> bool {
+/// Whether this is what is written to both sinks where the program ends with this status.
+fn is_due(
+    case: &Case,
+    device: Device,
+    call: u32,
+    status: u8,
+    (out, faults): (&[u8], &[u8]),
+) -> bool {
     match status {
-        0 => is_all(text, written),
-        2 => device != Device::Output && written == READ_FAULT.as_bytes(),
-        5 => device == Device::Output && is_part(text, call, written),
+        0 => is_all(case.called.text, out) && faults.is_empty(),
+        2 => (out, faults) == read_fault(case.called.call, device),
+        5 => device == Device::Output && is_part(case.called.text, call, out) && faults.is_empty(),
         _ => false,
+    }
+}
+
+/// What is written to both sinks where this device fails.
+fn read_fault(call: Call<'_>, device: Device) -> (&'static [u8], &'static [u8]) {
+    match (call, device) {
+        (Call::Beamer(_), Device::Script | Device::Capture | Device::Trace) => {
+            (READ_FAULT.as_bytes(), b"")
+        }
+        (Call::Connections(_), Device::Script) => (b"", b"beamer-connections: s: read fault\n"),
+        (Call::Connections(_), Device::Capture) => (b"", b"beamer-connections: c: read fault\n"),
+        _ => (b"none", b"none"),
     }
 }
 
@@ -265,7 +285,7 @@ fn each_call_of_a_device_may_fail_in_a_session(rt: HostRuntime) {
 }
 
 /// Words with a name of no file.
-static MISSING: [Call; 9] = [
+static MISSING: [Call; 7] = [
     Call::Beamer(&["replay", "c", "x"]),
     Call::Beamer(&["replay", "x", "s"]),
     Call::Beamer(&["run", "c", "x"]),
@@ -273,14 +293,26 @@ static MISSING: [Call; 9] = [
     Call::Beamer(&["streams", "x", "s"]),
     Call::Beamer(&["check", "t", "x", "s"]),
     Call::Beamer(&["check", "x", "c", "s"]),
+];
+
+/// The same of `beamer-connections`, whose line names that file.
+static MISSED: [Call; 4] = [
     Call::Connections(&["c", "x"]),
     Call::Connections(&["x", "s"]),
+    Call::Connections(&["x", "s", "--of", "10.0.0.1:1000"]),
+    Call::Connections(&["--lifetime", "x"]),
 ];
 
 /// Opening fails if there is no such file.
-fn miss(rt: &(impl Abort + Threads + Wait + Sync), alloc: Global, fakes: &[Fake], call: Call) {
-    let answered = fakes_answer(rt, alloc, call, STEP, fakes, &[], (2, READ_FAULT));
-    assert!(rt; answered == Ok(true));
+fn miss(
+    rt: &(impl Abort + Threads + Wait + Sync),
+    alloc: Global,
+    fakes: &[Fake],
+    call: Call,
+    line: &str,
+) {
+    let answered = fakes_answer(rt, alloc, call, STEP, fakes, &[], (2, line));
+    assert!(rt; answered == Ok(true), "{call:?}");
 }
 
 #[test]
@@ -288,6 +320,10 @@ fn each_open_may_fail(rt: HostRuntime) {
     let capture = raw(rt.alloc(), Form::Micro, OPENED).expect(&rt, "memory");
     let fakes = fakes(&over_two(&OVER_TWO[0], &capture), Device::Output, &[1]);
     for call in &MISSING {
-        miss(&rt, rt.alloc(), &fakes, *call);
+        miss(&rt, rt.alloc(), &fakes, *call, READ_FAULT);
+    }
+    for call in &MISSED {
+        let line = "beamer-connections: x: read fault: no such file\n";
+        miss(&rt, rt.alloc(), &fakes, *call, line);
     }
 }

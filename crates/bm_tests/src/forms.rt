@@ -7,6 +7,9 @@ use std::process::Abort;
 use std::sync::Wait;
 use std::thread::Threads;
 
+const CONNECTIONS_USAGE: &str =
+    "usage: beamer-connections CAPTURE SCRIPT [--csv | --json | --svg] [--clock] | CAPTURE SCRIPT --of CLIENT [SERVICE] [--clock] | --lifetime SCRIPT [--for SECONDS]\n";
+
 static NO_FORMS: [&[&str]; 11] = [
     &[],
     &["replay"],
@@ -31,6 +34,62 @@ fn words_of_no_form_get_the_usage_line(rt: HostRuntime) {
 fn check_words(rt: &(impl Abort + Threads + Wait + Sync), alloc: Global, call: Call) {
     let answered = fakes_answer(rt, alloc, call, 24, &[], &[], (1, USAGE));
     assert!(rt; answered == Ok(true), "{call:?}");
+}
+
+/// Calls of `beamer-connections`, the script that is there, the status, and the line.
+static FAULTS: [(&[&str], &str, u8, &str); 6] = [
+    (
+        &["c", "s"],
+        "muxes = 0\n",
+        4,
+        "beamer-connections: s: bad value of muxes\n",
+    ),
+    (
+        &["--lifetime", "s"],
+        "muxes: 0\n",
+        4,
+        "beamer-connections: s: not toml\n",
+    ),
+    (
+        &["c", "s"],
+        "[[command]]\nat_ns = 0\ndo = \"drain\"\nserver = 9\n",
+        4,
+        "beamer-connections: s: command 1: unknown server\n",
+    ),
+    (
+        &["c", "s", "--csv"],
+        "",
+        3,
+        "beamer-connections: c: not a capture\n",
+    ),
+    (
+        &["d", "s", "--json"],
+        "",
+        2,
+        "beamer-connections: d: read fault: no such file\n",
+    ),
+    (&["c"], "", 1, CONNECTIONS_USAGE),
+];
+
+#[test]
+fn a_fault_goes_to_the_second_sink_and_names_the_file(rt: HostRuntime) {
+    for (words, script, status, line) in &FAULTS {
+        let fakes = [named("s", script.as_bytes()), named("c", b"no capture")];
+        let call = Call::Connections(words);
+        let answered = fakes_answer(&rt, rt.alloc(), call, 24, &fakes, &[], (*status, line));
+        assert!(&rt; answered == Ok(true), "{line}");
+        let answered = fakes_answer(&rt, rt.alloc(), call, 24, &fakes, &[1], (5, ""));
+        assert!(&rt; answered == Ok(true), "{line}");
+    }
+}
+
+/// A file that doesn't fail.
+fn named<'a>(name: &'a str, octets: &'a [u8]) -> Fake<'a> {
+    Fake {
+        name,
+        octets,
+        fails: &[],
+    }
 }
 
 /// A file that is there, the calls of its source and of the sink that fail, the status, and what is

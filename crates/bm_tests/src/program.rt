@@ -4,7 +4,7 @@ ghost use Rattle.std.specs.Prelude.{◌≤◌};
 use crate::capture::{Form, Packet, raw};
 use bm_base::{List, Text};
 use bm_cli::beamer;
-use bm_connections_cli::beamer_connections;
+use bm_connections_cli::{Reasons, beamer_connections};
 use bm_io::{Files, Gate, OpenGate, Sink, SureFile, SureFiles, SureSink};
 use std::alloc::{AllocError, Global};
 use std::process::Abort;
@@ -49,17 +49,18 @@ pub(crate) fn run<F: Files, K: Sink, G: Gate>(
 }
 
 /// What `beamer-connections` ends with for these words.
-pub(crate) fn run_connections<F: Files, K: Sink>(
+pub(crate) fn run_connections<F: Files, K: Sink, E: Sink>(
     rt: &(impl Threads + Wait + Sync),
     alloc: Global,
     form: &[&str],
     files: &mut F,
-    out: &mut K,
+    (out, faults): (&mut K, &mut E),
+    reasons: &impl Reasons,
 ) -> Result<u8, AllocError>
     requires { F.open_now files.old ≤ 1000 }
 {
     let words = words(alloc, form)?;
-    Ok(beamer_connections(rt, alloc, &words, files, out))
+    Ok(beamer_connections(rt, alloc, &words, files, out, faults, reasons))
 }
 
 /// A file that gives at most this many octets at a time.

@@ -1,9 +1,7 @@
 -- What the code keeps of each record of a capture.
-use Rattle.std.specs.Prelude.{◌≡◌, ℕ, zero, suc, Bool, false, List, [], ◌∷◌, ◌++◌, slice_get}
+use Rattle.std.specs.Prelude.{ℕ, zero, suc, Bool, false, List, [], ◌∷◌, ◌++◌, slice_get}
 use Rattle.std.specs.Option.{option_map_or}
 use Rattle.bm_base.specs.declared.capture.Record.{Record}
-use Rattle.bm_connections.specs.declared.resets.Resets.{Resets}
-use Rattle.bm_connections.specs.Endings.{follows_reset}
 
 -- for each record, in order, what the test says of it and of the records before it
 abbrev pub marks_by : (Record → List Record → Bool) → List Record → List Bool
@@ -14,7 +12,3 @@ marks_by test (r ∷ records) = marks_by test records ++ test r records ∷ []
 abbrev pub mark_of : List Bool → ℕ → Bool
 mark_of marks zero = false
 mark_of marks (suc i) = option_map_or (λ mark. mark) (slice_get marks i) false
-
--- these are the packets of the records that follow their connection's RST
-abbrev pub AreResets : List Record → Resets → Type 0
-AreResets records resets = resets.marks.items ≡ marks_by follows_reset records

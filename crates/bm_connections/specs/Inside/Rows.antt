@@ -5,7 +5,7 @@ use Rattle.std.specs.Prelude.{◌++◌, length, Option, Some, None, is_some, map
 use Rattle.std.specs.BTreeMap as tree
 use Rattle.std.specs.Option.{option_map_or}
 use Rattle.bm_base.specs.contracts.flow.FlowOrd.TheImpl as flow_order
-use Rattle.bm_base.specs.Segments.{FIN, RST, has_flag, is_opening, same_flow}
+use Rattle.bm_base.specs.Segments.{FIN, has_flag, is_opening, same_flow}
 use Rattle.bm_base.specs.declared.capture.Record.{Record}
 use Rattle.bm_base.specs.declared.flow.Flow.{Flow}
 use Rattle.bm_base.specs.declared.flow.Segment.{Segment}
@@ -19,12 +19,11 @@ use Rattle.bm_trace.specs.Totals.{is_drop, is_reset}
 use Rattle.bm_connections.specs.declared.connection.Break.{Break}
 use Rattle.bm_connections.specs.declared.connection.Connection.{Connection}
 use Rattle.bm_connections.specs.declared.connection.Ending.{Ending}
-use Rattle.bm_connections.specs.declared.connection.Ending.TheVariants.{Open, Fin, Reset}
+use Rattle.bm_connections.specs.declared.connection.Ending.TheVariants.{Open, Fin}
 use Rattle.bm_connections.specs.declared.connection.Forwarding.{Forwarding}
 use Rattle.bm_connections.specs.declared.connection.Sight.{Sight}
 use Rattle.bm_connections.specs.declared.connection.Tally.{Tally}
 use Rattle.bm_connections.specs.declared.observed.Facts.{Facts}
-use Rattle.bm_connections.specs.declared.resets.Resets.{Resets}
 use Rattle.bm_connections.specs.declared.rows.Rows.{Rows}
 use Rattle.bm_connections.specs.declared.seen.Seen.{Seen}
 use Rattle.bm_connections.specs.Connections.{connection, first_of_two, one_more}
@@ -45,17 +44,24 @@ none = record {
   after_its_end = 0;
 }
 
--- a connection's own RST ended it
-abbrev pub is_by_reset : Ending → Bool
-is_by_reset Reset = true
-is_by_reset _ = false
-
 -- how a connection ends by the records after another segment of it
 abbrev pub ending_after : Segment → Ending → Ending
 ending_after s before =
-    if has_flag RST s then Reset
-    else if is_opening s then Open
-    else if has_flag FIN s && not (is_by_reset before) then Fin else before
+    if is_opening s then Open else if has_flag FIN s then Fin else before
+
+-- no FIN ended the connection
+abbrev pub is_unfinished : Ending → Bool
+is_unfinished Fin = false
+is_unfinished _ = true
+
+-- the segment is in the middle of a connection that ended so before it
+abbrev pub is_in_the_middle : Segment → Ending → Bool
+is_in_the_middle s before = not (is_opening s) && is_unfinished (ending_after s before)
+
+-- the segment concerns more than the farewell, if the one before it had data or not, and the
+-- connection ended so before it
+abbrev pub is_risky : Segment → Bool → Ending → Bool
+is_risky s after_data before = (carries_data s || after_data) || is_in_the_middle s before
 
 -- a flow that was first and last seen in these records, without arrivals
 abbrev pub seen_from : Flow → Sight → Sight → Ending → Connection
@@ -81,14 +87,15 @@ abbrev pub has_data_at : List Record → ℕ → Bool
 has_data_at records number =
     option_map_or (λ s. carries_data s) (segment_at records number) false
 
--- the segment has data, or the last packet of the connection at a place
-abbrev pub is_with_data : List Connection → ℕ → List Record → Segment → Bool
-is_with_data list place records s =
-    carries_data s
-    || option_map_or (λ c. has_data_at records c.last.number) (slice_get list place) false
+-- the segment, which comes after these records, concerns more than the farewell of the connection
+-- at a place
+abbrev pub is_risky_at : List Connection → ℕ → List Record → Segment → Bool
+is_risky_at list place records s =
+    option_map_or (λ c. is_risky s (has_data_at records c.last.number) c.ending)
+    (slice_get list place) false
 
--- the counts after an arrival with this verdict, which is a break or not, of a packet that follows
--- its connection's RST or doesn't
+-- the counts after an arrival with this verdict, which is a break or not, and is one that comes
+-- after its connection's end or not
 abbrev pub tallied : Verdict → Bool → Bool → Tally → Tally
 tallied verdict broke late t = record {
   accepted = one_more (is_accept verdict) t.accepted;
@@ -97,7 +104,7 @@ tallied verdict broke late t = record {
   reset = one_more (is_reset verdict) t.reset;
   dropped = one_more (is_drop verdict) t.dropped;
   stray = one_more (is_process verdict && broke) t.stray;
-  after_its_end = one_more (broke && late) t.after_its_end;
+  after_its_end = one_more late t.after_its_end;
 }
 
 -- the server that accepted a flow last, after an arrival of one of its packets
@@ -112,17 +119,18 @@ forwarded_after b wait before =
     (record { packet = b.packet; clock = b.clock; server = b.server; wait = wait })
     else before
 
--- what these rows and resets tell of a packet with this wait
-abbrev pub facts_of : Rows → Resets → ℕ → ℕ → Facts
-facts_of rows resets packet wait = record {
+-- what is known of the packet of an arrival with this wait, which breaks nothing since it comes
+-- after its connection's end, or not
+abbrev pub facts_of : Rows → Bool → ℕ → ℕ → Facts
+facts_of rows late packet wait = record {
   wait = wait;
-  follows_reset = mark_of resets.marks.items packet;
-  has_data = mark_of rows.with_data.items packet;
+  after_its_end = late;
+  risks_data = mark_of rows.risky.items packet;
 }
 
 -- an arrival is a break that counts
 abbrev pub is_counted : Break → Facts → Bool
-is_counted b x = is_some b.cause && not x.follows_reset
+is_counted b x = is_some b.cause && not x.after_its_end
 
 -- the refusal after an arrival, if the flow then has this server
 abbrev pub refused_after : Break → Facts → Option ServerId → Option Break → Option Break
@@ -138,13 +146,13 @@ observed b x c = record {
   last = c.last;
   ending = c.ending;
   server = server_after b c.server;
-  tally = tallied b.verdict (is_some b.cause) x.follows_reset c.tally;
+  tally = tallied b.verdict (is_some b.cause) x.after_its_end c.tally;
   forwarded = forwarded_after b x.wait c.forwarded;
   broken =
       first_of_two c.broken
       (if is_counted b x && is_some c.server then Some b else None);
   refused = refused_after b x (server_after b c.server) c.refused;
-  losing_data = (is_counted b x && is_some c.server) && x.has_data || c.losing_data;
+  losing_data = (is_counted b x && is_some c.server) && x.risks_data || c.losing_data;
 }
 
 -- each count can take one more
@@ -214,12 +222,12 @@ row stage records past f =
 abbrev pub table : Stage → List Record → List Event → List Connection
 table stage records past = map (row stage records past) (flows_of records)
 
--- these are the places of the records, which packets have data, and the connections after these
--- events
+-- these are the places of the records, which packets concern more than the farewell, and the
+-- connections after these events
 pub record AreRows (stage : Stage) (records : List Record) (past : List Event) (rows : Rows) :
     Type 0 where
   pub places : rows.places.items ≡ places_of records
-  pub with_data : rows.with_data.items ≡ marks_by endings.is_with_data records
+  pub risky : rows.risky.items ≡ marks_by endings.is_risky records
   pub connections : rows.connections.items ≡ table stage records past
 
 -- the connection of a flow by these records, before any event
@@ -230,7 +238,7 @@ seen records f =
 -- the same before any event, and the place of each flow
 pub record IsSeen (records : List Record) (s : Seen) : Type 0 where
   pub places : s.rows.places.items ≡ places_of records
-  pub with_data : s.rows.with_data.items ≡ marks_by endings.is_with_data records
+  pub risky : s.rows.risky.items ≡ marks_by endings.is_risky records
   pub connections : s.rows.connections.items ≡ map (seen records) (flows_of records)
   pub flows : (f : Flow)
       → tree.get (flow_order.ghosts).cmp s.flows f ≡ place_in (flows_of records) f

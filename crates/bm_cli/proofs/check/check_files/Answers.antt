@@ -1,4 +1,5 @@
 use Rattle.std.proofs.Common.{Ok, Err, subst}
+use Rattle.bm_cli.specs.Lines.{beamer_lines}
 use Rattle.bm_cli.specs.Checks.{IsCheckOf}
 use Rattle.bm_cli.specs.Dues.{Judged}
 use Rattle.bm_cli.specs.Statuses.{did}
@@ -12,7 +13,7 @@ returns-in-Ok-clause-ends g c =
     let sink = did g.K.Sink.written g.K.Sink.faults c.args.out.now c.show_check.new.out in
     check_ends c.args.trace.now c.args.capture.now c.args.script.now _ _ _ (Ok (stage, c.in-Ok.trace.items))
     c.show_check.result c.in-Ok.ensures.read
-    (subst (λ trace. Tells (Judged (IsCheckOf stage trace)) sink c.show_check.result) c.deref.ensures.value
+    (subst (λ trace. Tells beamer_lines (Judged (IsCheckOf stage trace)) sink c.show_check.result) c.deref.ensures.value
     c.show_check.ensures)
 
 pub returns-in-Err-clause-ends : goal.returns-in-Err-clause-ends

@@ -1,3 +1,4 @@
+use Rattle.bm_cli.specs.Lines.{beamer_lines}
 use Rattle.bm_cli.proofs.Telling.{tells_nothing, tells_report}
 use Rattle.bm_cli.proofs.Wider.{is_run}
 use Rattle.bm_cli.specs.Dues.{Shown}
@@ -14,4 +15,4 @@ returns-in-Ok g c =
     c.events_fit.ensures c.show_history.ensures
 
 pub returns-in-Err : goal.returns-in-Err
-returns-in-Err g c = tells_nothing (Shown (IsReportOf c.args.mode c.args.stage)) _ _
+returns-in-Err g c = tells_nothing beamer_lines (Shown (IsReportOf c.args.mode c.args.stage)) _ _

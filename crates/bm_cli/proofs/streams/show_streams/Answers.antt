@@ -1,4 +1,5 @@
 use Rattle.std.proofs.Common.{refl, subst, sym}
+use Rattle.bm_cli.specs.Lines.{beamer_lines}
 use Rattle.bm_cli.specs.declared.status.Status.TheVariants.{Done}
 use Rattle.bm_cli.specs.Dues.{Shown}
 use Rattle.bm_cli.specs.Streams.{IsStreamsOf}
@@ -7,8 +8,8 @@ use Rattle.bm_cli.proofs.streams.show_streams.Goals as goal
 
 pub returns-in-Ok : goal.returns-in-Ok
 returns-in-Ok g c =
-    tells_due (Shown (IsStreamsOf c.args.packets c.args.stage)) Done c.as_slice.result.now _ _
+    tells_due beamer_lines (Shown (IsStreamsOf c.args.packets c.args.stage)) Done c.as_slice.result.now _ _
     (refl, subst (IsStreamsOf c.args.packets c.args.stage) (sym c.as_slice.ensures.value) c.in-Ok.ensures) c.say.ensures
 
 pub returns-in-Err : goal.returns-in-Err
-returns-in-Err g c = tells_nothing (Shown (IsStreamsOf c.args.packets c.args.stage)) _ _
+returns-in-Err g c = tells_nothing beamer_lines (Shown (IsStreamsOf c.args.packets c.args.stage)) _ _

@@ -8,4 +8,4 @@ returns-clause-program g c =
 
 pub returns-clause-shown : goal.returns-clause-shown
 returns-clause-shown g c =
-    laws.shown _ _ _ _ _ (laws.ended _ _ _ _ _ c.answer.result c.code.ensures c.answer.ensures.ends)
+    laws.shown _ _ _ _ _ _ (laws.ended _ _ _ _ _ _ c.answer.result c.code.ensures c.answer.ensures.ends)

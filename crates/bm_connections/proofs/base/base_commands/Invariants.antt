@@ -1,4 +1,4 @@
-use Rattle.std.proofs.Common.{◌≡◌, filter, map, take}
+use Rattle.std.proofs.Common.{◌≡◌, filter, take}
 use Rattle.bm_connections.specs.Base.{stays}
 use Rattle.bm_connections.proofs.base.base_commands.Given as goal
 

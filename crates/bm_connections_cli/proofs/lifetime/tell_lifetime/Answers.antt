@@ -4,10 +4,10 @@ use Rattle.bm_connections_cli.proofs.Ending.{lifetime_told}
 use Rattle.bm_connections_cli.proofs.lifetime.tell_lifetime.Goals as goal
 
 pub returns-in_default : goal.returns-in_default
-returns-in_default g c = tells_nothing _ _ _
+returns-in_default g c = tells_nothing _ _ _ _
 
 pub returns-in_default-explained_text : goal.returns-in_default-explained_text
-returns-in_default-explained_text g c = tells_nothing _ _ _
+returns-in_default-explained_text g c = tells_nothing _ _ _ _
 
 pub returns : goal.returns
 returns g c =

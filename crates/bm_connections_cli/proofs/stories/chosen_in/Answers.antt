@@ -3,7 +3,7 @@ use Rattle.std.proofs.lemmas.List.{take_all}
 use Rattle.bm_connections.specs.declared.compared.Compared.{Compared}
 use Rattle.bm_connections.specs.Base.{compared_with}
 use Rattle.bm_connections.proofs.Comparing.{length_compared}
-use Rattle.bm_connections_cli.specs.Inside.Words.{chosen}
+use Rattle.bm_connections_words.specs.Options.{chosen}
 use Rattle.bm_connections_cli.specs.Stories.{is_chosen}
 use Rattle.bm_connections_cli.proofs.Choosing.{chosen_more}
 use Rattle.bm_connections_cli.proofs.stories.chosen_in.Goals as goal

@@ -1,7 +1,7 @@
 use Rattle.std.proofs.Common.{◌≡◌, filter, take}
 use Rattle.bm_connections.specs.declared.compared.Compared.{Compared}
 use Rattle.bm_connections.specs.Base.{compared_with}
-use Rattle.bm_connections_cli.specs.Inside.Words.{chosen}
+use Rattle.bm_connections_words.specs.Options.{chosen}
 use Rattle.bm_connections_cli.specs.Stories.{is_chosen}
 use Rattle.bm_connections_cli.proofs.stories.chosen_in.Given as goal
 

@@ -6,8 +6,9 @@ use Rattle.bm_cli.proofs.Telling.{tells_nothing}
 use Rattle.bm_connections.specs.Base.{compared_with}
 use Rattle.bm_connections.specs.Connections.{connections}
 use Rattle.bm_connections_cli.specs.Headline.{AreStoriesOf}
-use Rattle.bm_connections_cli.specs.Inside.Words.{chosen}
+use Rattle.bm_connections_words.specs.Options.{chosen}
 use Rattle.bm_connections_cli.specs.Stories.{story_report}
+use Rattle.bm_connections_cli.specs.Inside.Ends.{no_lines}
 use Rattle.bm_connections_cli.proofs.Ending.{tells_text}
 use Rattle.bm_connections_cli.proofs.top.show_stories.Goals as goal
 
@@ -21,4 +22,5 @@ returns-in-Ok g c =
     c.as_slice.ensures.value c.tell_stories.ensures)
 
 pub returns-in-Err : goal.returns-in-Err
-returns-in-Err g c = tells_nothing (Shown (AreStoriesOf (chosen c.args.picked) c.args.clock.0 c.args.stage)) _ _
+returns-in-Err g c = tells_nothing no_lines (Shown (AreStoriesOf
+    (chosen c.args.picked) c.args.clock.0 c.args.stage)) _ _

@@ -1,7 +1,6 @@
-use Rattle.std.proofs.Common.{◌∙◌, arith, reverse, subst, take, List}
-use Rattle.bm_base.specs.declared.capture.Record.{Record}
-use Rattle.bm_connections.specs.Inside.Marks.{AreResets}
+use Rattle.std.proofs.Common.{◌∙◌, arith}
 use Rattle.bm_connections.specs.Inside.Counters.{HasCounted}
+use Rattle.bm_connections.specs.Inside.Resets.{KnowsResets}
 use Rattle.bm_connections.proofs.Counting.{can_count_more, past_few, past_long}
 use Rattle.bm_connections.proofs.Passes.{break_here, cause_here, past_more}
 use Rattle.bm_connections.proofs.counters.Counters.of.Goals as goal
@@ -14,17 +13,17 @@ observe-requires-clause-room c =
 pub loop-place-preserved : goal.loop-place-preserved
 loop-place-preserved c =
     let found = c.at.ensures ∙ c.requires.causes c.loop-place.place
-    in let marks = subst (λ (xs : List Record). AreResets (reverse xs) c.in_ok-resets.resets) c.items.ensures
-    c.in_ok-resets.ensures
     in record {
       counted = past_more (λ past. HasCounted c.args.h.now.stage past c.observe.new.self) c.items-events.result.now
           c.loop-place.place _ c.loop-place-test.true
           (c.in_ok-observe.ensures _ (past_long c.items-events.result.now c.loop-place.place c.loop-place-test.true)
-          (c.counted-cause.ensures c.args.h.now.stage
-          (reverse (take c.loop-place.place c.items-events.result.now)) marks
+          (c.counted-cause.ensures _ c.loop-place.invariant.resets
           (cause_here c.args.h.now c.items-events.result.now c.loop-place.place _ c.at.result c.items-events.ensures
           c.loop-place-test.true found)
           (break_here c.args.h.now c.items-events.result.now c.loop-place.place _ c.at.result c.requires.run
           c.items-events.ensures c.loop-place-test.true found))
           c.loop-place.invariant.counted);
+      resets = past_more (λ past. KnowsResets c.args.h.now.stage past c.observe-in-loop-place.new.self) c.items-events.result.now
+          c.loop-place.place _ c.loop-place-test.true
+          (c.in_ok-observe-2.ensures _ c.loop-place.invariant.resets);
     }

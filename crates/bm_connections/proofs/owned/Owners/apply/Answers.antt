@@ -1,6 +1,5 @@
-use Rattle.std.proofs.Common.{◌∙◌, ap}
+use Rattle.std.proofs.Common.{◌∙◌}
 use Rattle.bm_connections.proofs.Counted.{owners-next}
-use Rattle.bm_connections.specs.Inside.Owned.{all_gone}
 use Rattle.bm_connections.proofs.owned.Owners.apply.Goals as goal
 
 pub returns-clause-next : goal.returns-clause-next

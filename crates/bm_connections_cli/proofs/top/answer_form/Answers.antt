@@ -1,0 +1,27 @@
+use Rattle.std.proofs.Common.{Some, ap, sym, subst, refl}
+use Rattle.bm_cli.specs.Top.{AsksNone}
+use Rattle.bm_connections_words.specs.declared.words.Form.{Form}
+use Rattle.bm_connections_words.specs.Words.{Help, Version, asked}
+use Rattle.bm_connections_cli.specs.Dues.{due}
+use Rattle.bm_connections_cli.specs.Help.{help_text, version_line}
+use Rattle.bm_connections_cli.proofs.Ending.{text_ends, words_end}
+use Rattle.bm_connections_cli.proofs.Forms.{lifetime_asks, report_asks}
+use Rattle.bm_connections_cli.proofs.top.answer_form.Goals as goal
+
+pub returns-in-Help-clause-ends : goal.returns-in-Help-clause-ends
+returns-in-Help-clause-ends g c =
+    words_end _ _ _ _ _ _ _ (sym (ap (λ (f : Form). Some (asked f)) c.in-Help.is))
+    (text_ends Help help_text _ _ _ _ _ _ _ (λ reads. refl) c.help.ensures)
+
+pub returns-in-Version-clause-ends : goal.returns-in-Version-clause-ends
+returns-in-Version-clause-ends g c =
+    words_end _ _ _ _ _ _ _ (sym (ap (λ (f : Form). Some (asked f)) c.in-Version.is))
+    (text_ends Version version_line _ _ _ _ _ _ _ (λ reads. refl) c.version.ensures)
+
+pub returns-in-Connections-clause-unasked : goal.returns-in-Connections-clause-unasked
+returns-in-Connections-clause-unasked g c = λ none.
+    absurd (report_asks _ _ (subst (λ (f : Form). AsksNone (due (Some (asked f)))) c.in-Connections.is none))
+
+pub returns-in-Lifetime-clause-unasked : goal.returns-in-Lifetime-clause-unasked
+returns-in-Lifetime-clause-unasked g c = λ none.
+    absurd (lifetime_asks _ _ (subst (λ (f : Form). AsksNone (due (Some (asked f)))) c.in-Lifetime.is none))
