@@ -52,7 +52,7 @@ _beamer_connections() {
     return
   fi
   if [ "$COMP_CWORD" = 1 ] && [ "${word#-}" != "$word" ]; then
-    mapfile -t COMPREPLY < <(compgen -W "--lifetime" -- "$word")
+    mapfile -t COMPREPLY < <(compgen -W "--help --lifetime --version" -- "$word")
     return
   fi
   case $COMP_CWORD in

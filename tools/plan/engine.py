@@ -166,12 +166,13 @@ class Engine:
             self.running.discard(process)
 
     def answered(self, script, *words, program=None):
-        """The name of a file with the output of a program for this script, where its status is 0."""
+        """The name of a file with the output of a program for this script, where its status is 0. `beamer` tells of faults there too."""
         path = self.new("told")
         with self.begun([program or self.program, *words], path) as process:
             status = process.wait()
         self.ended(process)
-        self.look_at(script, faults_of(path), status)
+        told = faults_of(path)
+        self.look_at(script, told if os.path.getsize(told) else path, status)
         return path
 
     def look_at(self, script, path, status):

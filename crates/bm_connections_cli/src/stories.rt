@@ -116,6 +116,18 @@ fn write_all(
     Ok(())
 }
 
+/// The line where there are none of those that are picked.
+fn write_none(text: &mut String, picked: &Chosen<'_>) -> Result<(), AllocError>
+    ensures { OnOk result (string_bytes text.new
+        ≡ string_bytes text.old ++ spec.none_line (chosen picked.now)) }
+{
+    let client = picked.client;
+    match picked.service {
+        None => writeln!(text, "no-connection {client}"),
+        Some(service) => writeln!(text, "no-connection {client} {service}"),
+    }
+}
+
 /// The stories of these connections, or a line if there are none.
 fn told_all(
     alloc: Global,
@@ -131,7 +143,7 @@ fn told_all(
 {
     let mut text = String::new(alloc);
     if list.is_empty() {
-        writeln!(text, "no-connection {}", picked.client)?;
+        write_none(&mut text, picked)?;
     } else {
         write_all(alloc, &mut text, clock, h, causes, list)?;
     }

@@ -8,7 +8,7 @@ use std::sync::Wait;
 use std::thread::Threads;
 
 const CONNECTIONS_USAGE: &str =
-    "usage: beamer-connections CAPTURE SCRIPT [--csv | --json | --svg] [--clock] | CAPTURE SCRIPT --of CLIENT [SERVICE] [--clock] | --lifetime SCRIPT [--for SECONDS]\n";
+    "usage: beamer-connections CAPTURE SCRIPT [--csv | --json | --svg] [--clock] | CAPTURE SCRIPT --of CLIENT [SERVICE] [--clock] | --lifetime SCRIPT [--for SECONDS] | --help | --version\n";
 
 static NO_FORMS: [&[&str]; 11] = [
     &[],
