@@ -13,7 +13,8 @@ TOP = os.path.dirname(os.path.dirname(os.path.dirname(os.path.realpath(__file__)
 CONNECTION = re.compile(
     r"connection (?P<client>\S+) (?P<service>\S+) opened \d+ at (?P<opened>\S+) last \d+ at (?P<last>\S+) "
     r"accepted (?P<server>\d+|none)(?: rack \d+)? times \d+ processed \d+ forwarded \d+ dropped \d+ reset \d+ stray \d+ "
-    r"after-its-end \d+ end (?P<ended>open|fin|rst|close)(?: last-forward \d+ by \d+(?: rack \d+)? at (?P<forward>\S+) after (?P<wait>\S+))? "
+    r"after-its-end \d+ end (?P<ended>open|fin|rst|close)"
+    r"(?: last-forward \d+ by \d+(?: rack \d+)? at (?P<forward>\S+) after (?P<wait>\S+))? "
     r"(?:(?P<end>broken|refused) \d+ (?P<verdict>.+) because (?P<cause>\S+) at (?P<at>\S+)"
     r"(?: (?P<why>by-the-change|anyway)(?P<losing> losing-data)?)?|whole|unaccepted)"
 )
