@@ -77,11 +77,11 @@ _beamer_plan() {
   COMPREPLY=()
   case ${COMP_WORDS[COMP_CWORD - 1]} in
     --fleet | --script | --check) _beamer_files "$word" toml; return ;;
-    --keep-script | --hosts | --ssh-config)
+    --keep-script | --hosts | --ssh-config | --html)
       compopt -o filenames 2>/dev/null
       mapfile -t COMPREPLY < <(compgen -f -- "$word")
       return ;;
-    --drain | --add | --weight | --timeout | --vip | --sample | --schedules) return ;;
+    --drain | --add | --weight | --timeout | --vip | --sample | --schedules | --story) return ;;
     --drains-at | --drain-all-with-waits | --slow-start | --tries) return ;;
   esac
   if [ "${word#-}" = "$word" ]; then
@@ -89,7 +89,7 @@ _beamer_plan() {
     return
   fi
   options="--fleet --script --check --drain --add --weight --timeout --vip --no-copies --no-open --keep-script --sample --hosts"
-  options+=" --ssh-config --schedules --json --help --what-if --drains-at --drain-all-with-waits --slow-start --search --tries"
+  options+=" --ssh-config --schedules --json --html --story --help --what-if --drains-at --drain-all-with-waits --slow-start --search --tries"
   mapfile -t COMPREPLY < <(compgen -W "$options" -- "$word")
 }
 complete -F _beamer_plan beamer-plan ./beamer-plan
