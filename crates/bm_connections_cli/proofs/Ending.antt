@@ -17,7 +17,7 @@ use Rattle.bm_cli.specs.declared.status.Status.{Status}
 use Rattle.bm_cli.specs.declared.status.Status.TheVariants.{Done, Exceeded, Memory, ReadFault, Usage, WriteFault}
 use Rattle.bm_cli.specs.Dues.{Answer, Due, IsDue, Misused, Refused, Shown, answer_by, answer_for, due_of_stage}
 use Rattle.bm_cli.specs.Ends.{Ends, IsOf}
-use Rattle.bm_cli.specs.Lines.{FaultLines, fault_status}
+use Rattle.bm_cli.specs.Lines.{FaultLines}
 use Rattle.bm_cli.specs.Stages.{ReadsNamed, ReadsStage}
 use Rattle.bm_cli.specs.Telling.{Tells}
 use Rattle.bm_cli.specs.Reading.{Holds, Octets, Reading, Reads}

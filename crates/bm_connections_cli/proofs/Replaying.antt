@@ -1,6 +1,5 @@
 -- The replays of a stage and of its base.
 use Rattle.std.proofs.Common.{◌≡◌, ℕ, Bool, List, sym, subst, ap, ap₂, map, ◌∙◌}
-use Rattle.bm_base.specs.declared.capture.Record.{Record}
 use Rattle.bm_core.specs.declared.events.History.{History}
 use Rattle.bm_core.specs.declared.events.Stage.{Stage}
 use Rattle.bm_link.specs.Fits.{ArePackets}

@@ -1,7 +1,7 @@
 -- The stories of the connections that are chosen (docs/FORMATS.md). A clock is when record 1 was
 -- captured, if moments are written in UTC.
 use Rattle.std.specs.Prelude.{ℕ, Bool, true, ◌&&◌, List, [], ◌∷◌, ◌++◌, Option, Some, None}
-use Rattle.std.specs.Prelude.{codes, filter, flat_map, option_to_list}
+use Rattle.std.specs.Prelude.{codes, filter, flat_map}
 use Rattle.std.specs.Str.{bytes_eq}
 use Rattle.bm_core.specs.declared.events.History.{History}
 use Rattle.bm_trace.specs.Words.{endpoint, line}
@@ -28,13 +28,13 @@ told clock h c =
     connection_line clock h.stage.script.setting.racks c ++ story clock h c.connection.flow
 
 -- the line where there are none
-abbrev pub none_line : Chosen → List ℕ
-none_line chosen =
-    line (codes "no-connection") (chosen.client ∷ option_to_list chosen.service)
+abbrev pub none_line : List ℕ → Option (List ℕ) → List ℕ
+none_line client None = line (codes "no-connection") (client ∷ [])
+none_line client (Some service) = line (codes "no-connection") (client ∷ service ∷ [])
 
 -- those of these connections; or a line, if there are none
 abbrev pub told_all : Chosen → Option ℕ → History → List Compared → List ℕ
-told_all chosen clock h [] = none_line chosen
+told_all chosen clock h [] = none_line chosen.client chosen.service
 told_all chosen clock h (c ∷ cs) = flat_map (told clock h) (c ∷ cs)
 
 -- those of the connections of a history that are chosen

@@ -1,6 +1,6 @@
 //! The stories of the connections that are chosen.
 ghost use Rattle.std.specs.Prelude.{◌≡◌, ◌++◌, ◌∷◌, [], IfOk, OnOk, filter, flat_map, string_bytes};
-ghost use Rattle.std.specs.Prelude.{option_map};
+ghost use Rattle.std.specs.Prelude.{None, Some, option_map};
 ghost use Rattle.std.specs.Str.{bytes_eq};
 ghost use Rattle.bm_core.specs.Runs.{IsRun};
 ghost use Rattle.bm_trace.specs.Swept.{AreCauses};
@@ -116,15 +116,28 @@ fn write_all(
     Ok(())
 }
 
-/// The line where there are none of those that are picked.
-fn write_none(text: &mut String, picked: &Chosen<'_>) -> Result<(), AllocError>
+fn write_no_client(text: &mut String, client: &str) -> Result<(), AllocError>
     ensures { OnOk result (string_bytes text.new
-        ≡ string_bytes text.old ++ spec.none_line (chosen picked.now)) }
+        ≡ string_bytes text.old ++ spec.none_line client.now None) }
 {
-    let client = picked.client;
-    match picked.service {
-        None => writeln!(text, "no-connection {client}"),
-        Some(service) => writeln!(text, "no-connection {client} {service}"),
+    writeln!(text, "no-connection {client}")
+}
+
+fn write_no_flow(text: &mut String, client: &str, service: &str) -> Result<(), AllocError>
+    ensures { OnOk result (string_bytes text.new
+        ≡ string_bytes text.old ++ spec.none_line client.now (Some service.now)) }
+{
+    writeln!(text, "no-connection {client} {service}")
+}
+
+/// The line where there is no connection of the client to the service, or to any if none is named.
+fn write_none(text: &mut String, client: &str, service: Option<&str>) -> Result<(), AllocError>
+    ensures { OnOk result (string_bytes text.new ≡ string_bytes text.old
+        ++ spec.none_line client.now (option_map (λ s. s.now) service.entry)) }
+{
+    match service {
+        None => write_no_client(text, client),
+        Some(service) => write_no_flow(text, client, service),
     }
 }
 
@@ -143,7 +156,7 @@ fn told_all(
 {
     let mut text = String::new(alloc);
     if list.is_empty() {
-        write_none(&mut text, picked)?;
+        write_none(&mut text, picked.client, picked.service)?;
     } else {
         write_all(alloc, &mut text, clock, h, causes, list)?;
     }

@@ -1,5 +1,5 @@
 -- How the private calls end.
-use Rattle.std.specs.Prelude.{List, ℕ, Option}
+use Rattle.std.specs.Prelude.{Option}
 use Rattle.bm_cli.specs.declared.status.Status.{Status}
 use Rattle.bm_cli.specs.Ends.{Ends}
 use Rattle.bm_cli.specs.Lines.{FaultLines}

@@ -1,6 +1,8 @@
 use Rattle.std.proofs.Common.{Some, ap, sym, subst, refl}
 use Rattle.bm_cli.specs.Top.{AsksNone}
 use Rattle.bm_connections_words.specs.declared.words.Form.{Form}
+use Rattle.bm_words.specs.Form.{named}
+use Rattle.bm_connections_words.specs.Options.{said}
 use Rattle.bm_connections_words.specs.Words.{Help, Version, asked}
 use Rattle.bm_connections_cli.specs.Dues.{due}
 use Rattle.bm_connections_cli.specs.Help.{help_text, version_line}
@@ -20,8 +22,10 @@ returns-in-Version-clause-ends g c =
 
 pub returns-in-Connections-clause-unasked : goal.returns-in-Connections-clause-unasked
 returns-in-Connections-clause-unasked g c = λ none.
-    absurd (report_asks _ _ (subst (λ (f : Form). AsksNone (due (Some (asked f)))) c.in-Connections.is none))
+    absurd (report_asks (named c.in-Connections.names) (said c.in-Connections.options)
+    (subst (λ (f : Form). AsksNone (due (Some (asked f)))) c.in-Connections.is none))
 
 pub returns-in-Lifetime-clause-unasked : goal.returns-in-Lifetime-clause-unasked
 returns-in-Lifetime-clause-unasked g c = λ none.
-    absurd (lifetime_asks _ _ (subst (λ (f : Form). AsksNone (due (Some (asked f)))) c.in-Lifetime.is none))
+    absurd (lifetime_asks c.in-Lifetime.script.now c.in-Lifetime.seconds
+    (subst (λ (f : Form). AsksNone (due (Some (asked f)))) c.in-Lifetime.is none))
