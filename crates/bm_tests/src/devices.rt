@@ -164,23 +164,24 @@ fn outcome(
     };
     let fakes = fakes(case, device, &calls);
     let mut faults = MemSink::new(alloc, Vec::new(alloc));
-    let sinks = (&mut out, &mut faults);
-    let (status, open) = run_fakes(rt, alloc, case.called.call, STEP, &fakes, sinks, None)?;
-    let written = (out.sink.written(), faults.written());
-    Ok((status, open, is_due(case, device, call, status, written)))
+    let asked = case.called.call;
+    let (status, open) = run_fakes(rt, alloc, asked, STEP, &fakes, &mut out, &mut faults, None)?;
+    let (told, refused) = (out.sink.written(), faults.written());
+    Ok((
+        status,
+        open,
+        is_due(case, device, call, status, told, refused),
+    ))
 }
 
 /// Whether this is what is written to both sinks where the program ends with this status.
-fn is_due(
-    case: &Case,
-    device: Device,
-    call: u32,
-    status: u8,
-    (out, faults): (&[u8], &[u8]),
-) -> bool {
+fn is_due(case: &Case, device: Device, call: u32, status: u8, out: &[u8], faults: &[u8]) -> bool {
     match status {
         0 => is_all(case.called.text, out) && faults.is_empty(),
-        2 => (out, faults) == read_fault(case.called.call, device),
+        2 => {
+            let (told, refused) = read_fault(case.called.call, device);
+            out == told && faults == refused
+        }
         5 => device == Device::Output && is_part(case.called.text, call, out) && faults.is_empty(),
         _ => false,
     }

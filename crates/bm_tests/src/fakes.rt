@@ -64,7 +64,8 @@ pub(crate) fn run_fakes<K: Sink, E: Sink>(
     call: Call,
     step: usize,
     fakes: &[Fake],
-    (out, faults): (&mut K, &mut E),
+    out: &mut K,
+    faults: &mut E,
     why: Option<Reason>,
 ) -> Result<(u8, u32), AllocError>
     requires { 1 ≤ step }
@@ -73,7 +74,7 @@ pub(crate) fn run_fakes<K: Sink, E: Sink>(
     let status = match call {
         Call::Beamer(words) => run(rt, alloc, words, &mut files, out, &OpenGate)?,
         Call::Connections(words) => {
-            run_connections(rt, alloc, words, &mut files, (out, faults), &Always(why))?
+            run_connections(rt, alloc, words, &mut files, out, faults, &Always(why))?
         }
     };
     Ok((status, files.open_now()))
@@ -93,14 +94,15 @@ pub(crate) fn fakes_answer(
     step: usize,
     fakes: &[Fake],
     writes: &[u32],
-    (status, text): (u8, &str),
+    due: (u8, &str),
 ) -> Result<bool, AllocError>
     requires { 1 ≤ step }
 {
+    let (status, text) = due;
     let why = Some(Reason::NoSuchFile);
     let mut out = MemSink::new(alloc, Vec::from_slice(alloc, writes)?);
     let mut faults = MemSink::new(alloc, Vec::from_slice(alloc, writes)?);
-    let ended = run_fakes(rt, alloc, call, step, fakes, (&mut out, &mut faults), why)?;
+    let ended = run_fakes(rt, alloc, call, step, fakes, &mut out, &mut faults, why)?;
     let (told, untold) = if is_of_fault(call, status) {
         (faults.written(), out.written())
     } else {

@@ -54,7 +54,8 @@ pub(crate) fn run_connections<F: Files, K: Sink, E: Sink>(
     alloc: Global,
     form: &[&str],
     files: &mut F,
-    (out, faults): (&mut K, &mut E),
+    out: &mut K,
+    faults: &mut E,
     reasons: &impl Reasons,
 ) -> Result<u8, AllocError>
     requires { F.open_now files.old ≤ 1000 }
