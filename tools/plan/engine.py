@@ -99,7 +99,7 @@ def lines_with(text, word):
 class Replay:
     """What the program tells of a replay of all parts of a capture: how many connections there are, those that are broken or refused by
     flow, how many buckets each change moves, of how many, the least timeout that is long enough where packets came too late, the longest
-    need of an old server, and how many connections are open at the end that a change moves, with the longest time since the last packet
+    need of an old server, and how many connections are open at the end, away from their server, with the longest time since the last packet
     of one. `lines` has all lines that aren't of connections."""
 
     def __init__(self, outcomes):

@@ -235,6 +235,8 @@ def keep(path, told):
 
 
 def tell(told):
+    if sys.stdout is None:
+        raise Refusal(WRITE, "standard output is closed")
     print(told.text(sys.stdout.isatty() and "NO_COLOR" not in os.environ), flush=True)
     return told.status
 

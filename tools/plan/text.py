@@ -134,7 +134,7 @@ def of_open(answer):
     if replay.open:
         are = "is" if replay.open == 1 else "are"
         idle = f"the longest idle for {seconds_text(replay.idle)}"
-        yield f"{plural(replay.open, 'connection')} that a change moves {are} open at the end, {idle}:"
+        yield f"{plural(replay.open, 'connection')} {are} open at the end, away from their server, {idle}:"
         yield "  the captures can't tell whether the change breaks them later"
 
 
