@@ -95,13 +95,12 @@ retirings_elsewhere stage i h server at outcome (n ∷ notes) are =
 -- calls alone
 pub has_called : (stage : Stage) (servers : List Serving) (p : Posted) (a b : Leader) (notes : List Note)
     → HasCalled stage servers 64 a.caller b.caller notes → control_log stage notes ≡ [] → b.next ≡ a.next
-    → b.log.items ≡ a.log.items → b.last_post.0 ≡ a.last_post.0 → b.published.0 ≡ a.published.0
+    → b.log.items ≡ a.log.items → b.published.0 ≡ a.published.0
     → HasDone stage servers p p a b notes
-has_called stage servers p a b notes called away next log last published = record {
+has_called stage servers p a b notes called away next log published = record {
   called = called;
   next = next;
   log = rw away (log ∙ sym (append-nil a.log.items));
   posted = rw away (ap (λ (l : List ℕ). record p { clocks = l }) (sym (append-nil p.clocks)));
-  last_post = rw away last;
   published = rw away published;
 }

@@ -24,19 +24,17 @@ drop_all (x ∷ l) = drop_all l
 -- THE BEGIN
 
 pub ready_first : (stage : Stage) (servers : List Serving) (posted : Posted) (leader : Leader) → IsSound stage
-    → Begins stage servers posted leader.caller → leader.next ≡ 0 → leader.published.0 ≡ 0 → leader.last_post.0 ≡ 0
+    → Begins stage servers posted leader.caller → leader.next ≡ 0 → leader.published.0 ≡ 0
     → IsReady stage servers posted leader
-ready_first stage servers posted leader sound begins next published last = record {
+ready_first stage servers posted leader sound begins next published = record {
   next = omega arith;
   versions = rw (next, published) sound.script.versions;
   posted_is = record {
     plan = begins.plan;
     count = ap (λ l. length l) begins.clocks ∙ sym published;
     few = omega arith;
-    last = ap (λ (l : List ℕ). last_or 0 l) begins.clocks ∙ sym last;
   };
-  below = omega arith;
-  early = omega arith;
+  below = (let none = ap (λ (l : List ℕ). last_or 0 l) begins.clocks in omega arith);
   tries = (let none = begins.tries in omega arith);
   number = begins.number;
   has_seats = begins.has_seats;

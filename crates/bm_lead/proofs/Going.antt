@@ -1,5 +1,5 @@
 -- Worker 0 is ready for the next command.
-use Rattle.std.proofs.Common.{◌≡◌, ℕ, suc, ◌+◌, ◌*◌, ◌^◌, ◌≤◌, max, false, Option, List, [], ◌∷◌, ◌++◌, length, drop}
+use Rattle.std.proofs.Common.{◌≡◌, ℕ, suc, ◌+◌, ◌≤◌, max, false, Option, List, [], ◌∷◌, ◌++◌, length, drop}
 use Rattle.std.proofs.Common.{slice_get, Some, refl, sym, ap, ◌∙◌, subst, arith, append-nil, length-append}
 use Rattle.std.proofs.lemmas.Option.{slice_get_within}
 use Rattle.bm_table.specs.declared.script.Command.{Command}
@@ -23,16 +23,14 @@ use Rattle.bm_lead.proofs.Leading.{gone_on, leads_more, leads_none, leads_step}
 use Rattle.bm_lead.proofs.Scripted.{command_known, drop_at, fewer_published, next_version}
 use Rattle.bm_lead.proofs.Steps.{IsStep, change_step, close_step, retire_step, sync_step}
 
-pub last_snoc : (low c : ℕ) (clocks : List ℕ) → last_or low (clocks ++ c ∷ []) ≡ c
+last_snoc : (low c : ℕ) (clocks : List ℕ) → last_or low (clocks ++ c ∷ []) ≡ c
 last_snoc low c [] = refl
 last_snoc low c (x ∷ clocks) = last_snoc x c clocks
 
 -- what was posted; the last post may be new
 record ArePosts (p : Posted) (b : Leader) (n : ℕ) : Type 0 where
   pub count : length p.clocks ≡ b.published.0
-  pub last : last_post p ≡ b.last_post.0
-  pub below : b.last_post.0 ≤ b.caller.latest
-  pub early : b.last_post.0 + 4096 ≤ 9 * 10 ^ 18
+  pub below : last_post p ≤ b.caller.latest
   pub published : b.published.0 ≡ n
 
 -- nothing was posted
@@ -43,14 +41,11 @@ quiet_posts stage servers p q a b e ready done none same =
     let clocks : q.clocks ≡ p.clocks =
     ap (λ (x : Posted). x.clocks) done.posted
     ∙ (ap (λ (l : List ℕ). p.clocks ++ l) none ∙ append-nil p.clocks) in
-    let last : b.last_post.0 ≡ a.last_post.0 =
-    done.last_post ∙ ap (λ (l : List ℕ). last_or a.last_post.0 l) none in
+    let last : last_post q ≡ last_post p = ap (λ (l : List ℕ). last_or 0 l) clocks in
     let published : b.published.0 ≡ a.published.0 = done.published ∙ same in
     record {
       count = ap (λ l. length l) clocks ∙ (ready.posted_is.count ∙ sym published);
-      last = ap (λ (l : List ℕ). last_or 0 l) clocks ∙ (ready.posted_is.last ∙ sym last);
       below = (let low = ready.below in let high = done.called.latest in omega arith);
-      early = (let low = ready.early in omega arith);
       published = published;
     }
 
@@ -75,10 +70,8 @@ ready_from stage servers p q a b e c n at ready done names posts =
         count = posts.count;
         few =
             (let next = fewer_published (n + 1) top left names in let now = posts.published in omega arith);
-        last = posts.last;
       };
       below = posts.below;
-      early = posts.early;
       tries = (let few = ready.tries in let more = done.called.tries in let same = done.next in omega arith);
       number = done.called.same.number ∙ ready.number;
       has_seats = sits_kept servers a.caller b.caller ready.has_seats done.called.same;
@@ -100,8 +93,8 @@ ready_more stage servers p q a b c e at ready of done =
           let control = ap (λ (l : List Note). control_log stage l) of.1 in
           let clocks : q.clocks ≡ p.clocks ++ of.0.0 ∷ [] =
           ap (λ (x : Posted). x.clocks) done.posted ∙ ap (λ l. p.clocks ++ posted_clocks l) control in
-          let last : b.last_post.0 ≡ of.0.0 =
-          done.last_post ∙ ap (λ l. last_or a.last_post.0 (posted_clocks l)) control in
+          let last : last_post q ≡ of.0.0 =
+          ap (λ (l : List ℕ). last_or 0 l) clocks ∙ last_snoc 0 of.0.0 p.clocks in
           let published : b.published.0 ≡ a.published.0 + 1 =
           done.published ∙ (ap (λ l. published_after l a.published.0) control ∙ names.0) in
           let top : greatest (λ n. n.event.clock.0) e ≡ max of.0.0 0 =
@@ -109,9 +102,7 @@ ready_more stage servers p q a b c e at ready of done =
           ready_from stage servers p q a b e (Change v) (a.published.0 + 1) at ready done names.1 (record {
             count = ap (λ l. length l) clocks ∙ (length-append p.clocks (of.0.0 ∷ [])
                 ∙ (let was = ready.posted_is.count in omega arith));
-            last = ap (λ (l : List ℕ). last_or 0 l) clocks ∙ (last_snoc 0 of.0.0 p.clocks ∙ sym last);
             below = (let high = done.called.latest in omega arith);
-            early = (let low = of.3 in omega arith);
             published = published;
           })
       go (Close when server flow) at of names =

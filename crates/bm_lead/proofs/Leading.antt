@@ -19,7 +19,7 @@ use Rattle.bm_core.specs.Runs.{Actor}
 use Rattle.bm_core.specs.Runs.Actor.{Controller}
 use Rattle.bm_merge.specs.Merges.{newest_until}
 use Rattle.bm_merge.specs.Notes.{Note, events_of, many, size_of, total}
-use Rattle.bm_merge.specs.Workers.{home_part, is_home, is_publish}
+use Rattle.bm_merge.specs.Workers.{home_part, is_home}
 use Rattle.bm_merge.proofs.Commanding.{all_kinds}
 use Rattle.bm_merge.proofs.CopiesLeft.{all_under}
 use Rattle.bm_merge.proofs.Noting.{each_append, each_so, each_two, events_append, greatest_append}
@@ -27,7 +27,7 @@ use Rattle.bm_merge.proofs.Noting.{total_append, total_none}
 use Rattle.bm_server.specs.Servings.{Serving}
 use Rattle.bm_publish.specs.Posts.{Posted}
 use Rattle.bm_lead.specs.declared.leader.Leader.{Leader}
-use Rattle.bm_lead.specs.Commands.{AreDone, IsControlStep, IsJudgedBy, control_log, posted_clocks}
+use Rattle.bm_lead.specs.Commands.{AreDone, IsControlStep, IsJudgedBy, control_log, is_publish, posted_clocks}
 use Rattle.bm_worker.proofs.CallNotes.{gets_more, gets_none}
 use Rattle.bm_lead.specs.Leads.{IsLed, IsPlaced, Leads}
 use Rattle.bm_lead.specs.Inside.Steps.{HasDone, published_after}

@@ -4,5 +4,4 @@ pub mod Steps
 pub mod Leading
 pub mod Going
 pub mod Stopping
-pub mod Resting
 pub mod Ending

@@ -1,7 +1,7 @@
 -- What worker 0 does (docs/DEFINITIONS.md), as notes, and what holds of the notes that carry out
 -- the first commands of a script. Lists of notes have the newest first.
 use Rattle.std.specs.Prelude.{◌≡◌, ℕ, ◌<◌, ◌≤◌, ◌==◌, if◌then◌else◌, List, [], ◌∷◌, ◌++◌, take}
-use Rattle.std.specs.Prelude.{IfSome, slice_get}
+use Rattle.std.specs.Prelude.{Bool, true, false, IfSome, slice_get}
 use Rattle.std.specs.List.{AllByRecursion}
 use Rattle.bm_base.specs.declared.flow.Flow.{Flow}
 use Rattle.bm_base.specs.declared.ids.Moment.{Moment}
@@ -10,7 +10,7 @@ use Rattle.bm_table.specs.Tables.{IsRetirement}
 use Rattle.bm_core.specs.declared.events.Event.{Event}
 use Rattle.bm_core.specs.declared.events.Stage.{Stage}
 use Rattle.bm_core.specs.declared.events.What.{What}
-use Rattle.bm_core.specs.declared.events.What.TheVariants.{Retire, Sync}
+use Rattle.bm_core.specs.declared.events.What.TheVariants.{Publish, Retire, Sync}
 use Rattle.bm_core.specs.Accounts.{closes_flow, count_of, is_sync, retires_shard}
 use Rattle.bm_core.specs.Accounts.{wants_close, wants_retire, wants_sync}
 use Rattle.bm_core.specs.Past.{timeout}
@@ -18,7 +18,7 @@ use Rattle.bm_core.specs.Runs.{own_clock}
 use Rattle.bm_core.specs.Runs.Actor.{Controller}
 use Rattle.bm_merge.specs.Merges.{IsNextVersion, newest_until}
 use Rattle.bm_merge.specs.Notes.{Note, events_of, many, size_of}
-use Rattle.bm_merge.specs.Workers.{home_part, is_publish}
+use Rattle.bm_merge.specs.Workers.{home_part}
 use Rattle.bm_worker.specs.WorkerNotes.{note_at, no_fate}
 
 -- a Sync at this clock, by the command of this number
@@ -30,6 +30,11 @@ syncing clock command = note_at clock Sync no_fate command 0 0
 -- the events of the notes that are in it
 abbrev pub control_log : Stage → List Note → List Event
 control_log stage notes = events_of (home_part stage Controller notes)
+
+-- the event is a Publish
+abbrev pub is_publish : What → Bool
+is_publish (Publish v) = true
+is_publish _ = false
 
 -- the clocks of its Publishes, the oldest first
 abbrev pub posted_clocks : List Event → List ℕ

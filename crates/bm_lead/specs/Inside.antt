@@ -1,4 +1,3 @@
 -- Only the contracts of private calls and the proofs of bodies use these.
 pub mod Commands
-pub mod Rests
 pub mod Steps

@@ -1,5 +1,5 @@
 -- What worker 0 keeps while it goes through the commands of a script.
-use Rattle.std.specs.Prelude.{◌≡◌, ℕ, ◌+◌, ◌*◌, ◌^◌, ◌<◌, ◌≤◌, List, [], drop, length, slice_get}
+use Rattle.std.specs.Prelude.{◌≡◌, ℕ, ◌+◌, ◌*◌, ◌<◌, ◌≤◌, List, [], drop, length, slice_get}
 use Rattle.std.specs.Prelude.{Option, Some}
 use Rattle.std.specs.Prelude.{Result, Err}
 use Rattle.bm_table.specs.declared.script.Command.{Command}
@@ -19,7 +19,6 @@ pub record HasPosted (stage : Stage) (posted : Posted) (leader : Leader) : Type 
   pub plan : posted.plan ≡ stage.script.plan
   pub count : length posted.clocks ≡ leader.published.0
   pub few : leader.published.0 ≤ length stage.script.plan.changes
-  pub last : last_post posted ≡ leader.last_post.0
 
 -- worker 0 may go on
 pub record IsReady (stage : Stage) (servers : List Serving) (posted : Posted) (leader : Leader)
@@ -29,9 +28,8 @@ pub record IsReady (stage : Stage) (servers : List Serving) (posted : Posted) (l
   pub versions : NamesVersions (leader.published.0 + 1) (length stage.script.plan.changes)
       (drop leader.next stage.script.commands)
   pub posted_is : HasPosted stage posted leader
-  -- the last post is no later than what worker 0 did, and than LAST - 4,096
-  pub below : leader.last_post.0 ≤ leader.caller.latest
-  pub early : leader.last_post.0 + 4096 ≤ 9 * 10 ^ 18
+  -- the last post is no later than what worker 0 did
+  pub below : last_post posted ≤ leader.caller.latest
   -- at most one call for each shard of a command
   pub tries : leader.caller.tries ≤ 64 * leader.next
   pub number : leader.caller.number ≡ 0

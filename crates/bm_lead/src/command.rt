@@ -1,5 +1,5 @@
 //! The commands of the script, one at a time.
-ghost use Rattle.std.specs.Prelude.{◌≡◌, ℕ, ◌+◌, ◌-◌, ◌*◌, ◌^◌, ◌<◌, ◌≤◌, ◌∷◌, ◌++◌, []};
+ghost use Rattle.std.specs.Prelude.{◌≡◌, ℕ, ◌+◌, ◌*◌, ◌^◌, ◌<◌, ◌≤◌, ◌∷◌, ◌++◌, []};
 ghost use Rattle.std.specs.Prelude.{length, List, slice_get, Some, Err, IfErr, OnOk, OnErr};
 ghost use Rattle.bm_table.specs.declared.script.Command.TheVariants.{Change, Close, Retire};
 ghost use Rattle.bm_core.specs.Stages.{IsSound};
@@ -18,8 +18,6 @@ use bm_publish::Poster;
 use bm_table::{Command, Retirement, Script};
 use bm_worker::{Caller, Shared, Stop, place_of};
 use std::sync::Wait;
-
-const MAX_CHANGES: u64 = 4_096;
 
 /// The place of a server that the script knows.
 fn known_place<F, G>(shared: &Shared<'_, F, G>, id: ServerId) -> usize
@@ -42,7 +40,7 @@ pub(crate) fn write_down(log: &mut Vec<Event>, clock: Moment, what: What) -> Res
     Ok(())
 }
 
-/// Publishes the plan's next version. Late if its clock would be above LAST - 4,096.
+/// Publishes the plan's next version. Late if its clock would be above LAST.
 fn publish<R: Wait, F, G>(
     rt: &R,
     shared: &Shared<'_, F, G>,
@@ -56,15 +54,14 @@ fn publish<R: Wait, F, G>(
     ensures ok { OnOk result (CarriesOut shared.now.stage shared.now.servers poster.old poster.new
         leader.old leader.new (Change version)) }
     ensures late { OnLate result ((leader.new ≡ leader.old) × (poster.new ≡ poster.old)) }
-    ensures stop { IfErr result (IsStopFrom (9 * 10 ^ 18 - 4096) leader.old.caller.latest) }
+    ensures stop { IfErr result (IsStopFrom (9 * 10 ^ 18) leader.old.caller.latest) }
 {
     let change = shared.stage().script.plan.copy_change(version)?;
-    let clock = clock_up_to(LAST - MAX_CHANGES, leader.caller.latest(), change.moment)?;
+    let clock = clock_up_to(LAST, leader.caller.latest(), change.moment)?;
     poster.post(rt, change, clock)?;
     write_down(&mut leader.log, clock, What::Publish(version))?;
     leader.caller.see(clock);
     leader.published = version;
-    leader.last_post = clock;
     Ok(())
 }
 
@@ -83,7 +80,7 @@ fn close<R: Wait, F, G>(
     ensures ok { (p : Posted) → OnOk result (CarriesOut shared.now.stage shared.now.servers p p
         leader.old leader.new (Close at server flow)) }
     ensures late { OnLate result (leader.new ≡ leader.old) }
-    ensures stop { IfErr result (IsStopFrom (9 * 10 ^ 18 - 4096) leader.old.caller.latest) }
+    ensures stop { IfErr result (IsStopFrom (9 * 10 ^ 18) leader.old.caller.latest) }
 {
     let due = due_moment(at, leader.caller.latest())?;
     let place = known_place(shared, server);
@@ -131,7 +128,7 @@ fn retire<R: Wait, F, G>(
     ensures ok { (p : Posted) → OnOk result (CarriesOut shared.now.stage shared.now.servers p p
         leader.old leader.new (Retire at server)) }
     ensures late { OnLate result (leader.new ≡ leader.old) }
-    ensures stop { IfErr result (IsStopFrom (9 * 10 ^ 18 - 4096) leader.old.caller.latest) }
+    ensures stop { IfErr result (IsStopFrom (9 * 10 ^ 18) leader.old.caller.latest) }
 {
     let due = due_moment(at, leader.caller.latest())?;
     let Script { setting, plan, .. } = &shared.stage().script;
@@ -156,7 +153,7 @@ pub(crate) fn carry_out<R: Wait, F, G>(
     ensures ok { OnOk result (CarriesOut shared.now.stage shared.now.servers poster.old poster.new
         leader.old leader.new command) }
     ensures late { OnLate result ((leader.new ≡ leader.old) × (poster.new ≡ poster.old)) }
-    ensures stop { IfErr result (IsStopFrom (9 * 10 ^ 18 - 4096) leader.old.caller.latest) }
+    ensures stop { IfErr result (IsStopFrom (9 * 10 ^ 18) leader.old.caller.latest) }
 {
     match command {
         Command::Change(version) => publish(rt, shared, version, poster, leader),

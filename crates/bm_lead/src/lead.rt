@@ -1,5 +1,5 @@
 //! The commands of a phase, and the Sync after them.
-ghost use Rattle.std.specs.Prelude.{◌≡◌, ◌+◌, ◌-◌, ◌*◌, ◌^◌, ◌<◌, ◌≤◌, length, List};
+ghost use Rattle.std.specs.Prelude.{◌≡◌, ◌+◌, ◌*◌, ◌^◌, ◌<◌, ◌≤◌, length, List};
 ghost use Rattle.std.specs.Prelude.{slice_get, Some, IfErr, OnOk};
 ghost use Rattle.bm_table.specs.declared.script.Command.TheVariants.{Sync};
 ghost use Rattle.bm_core.specs.Stages.{IsSound};
@@ -35,7 +35,7 @@ fn lead_next<R: Wait, F, G: Gate>(
     ensures led { UnlessMemory result (HasLed shared.now.stage shared.now.servers poster.old
         poster.new leader.old leader.new) }
     ensures next { OnOk result (leader.new.next ≡ leader.old.next + 1) }
-    ensures stop { IfErr result (IsStopFrom (9 * 10 ^ 18 - 4096) leader.new.caller.latest) }
+    ensures stop { IfErr result (IsStopFrom (9 * 10 ^ 18) leader.new.caller.latest) }
 {
     let place = leader.next;
     let commands = shared.stage().script.commands.items();
@@ -47,8 +47,8 @@ fn lead_next<R: Wait, F, G: Gate>(
 
 /// Carries out the commands of a phase: from the next one on, those whose places are below `until`,
 /// where there is a sync or no command. Right before each it comes to the gate. `Late` if a moment
-/// would be above LAST, or the clock of a post above LAST - 4,096; the commands before it are then
-/// carried out. `Memory` where memory was refused. It may wait.
+/// would be above LAST; the commands before it are then carried out. `Memory` where memory was
+/// refused. It may wait.
 pub fn lead_phase<R: Wait, F, G: Gate>(
     rt: &R,
     shared: &Shared<'_, F, G>,
@@ -61,7 +61,7 @@ pub fn lead_phase<R: Wait, F, G: Gate>(
     ensures led { UnlessMemory result (HasLed shared.now.stage shared.now.servers poster.old
         poster.new leader.old leader.new) }
     ensures next { OnOk result (leader.new.next ≡ until) }
-    ensures stop { IfErr result (IsStopFrom (9 * 10 ^ 18 - 4096) leader.new.caller.latest) }
+    ensures stop { IfErr result (IsStopFrom (9 * 10 ^ 18) leader.new.caller.latest) }
 {
     while leader.next < until {
         lead_next(rt, shared, poster, leader)?;

@@ -7,7 +7,7 @@ ghost use Rattle.bm_publish.specs.Posts.{Posted};
 ghost use Rattle.bm_lead.specs.Leaders.{Begins, IsReady};
 ghost use Rattle.bm_lead.specs.Leads.{IsLed};
 
-use bm_base::{Moment, Version};
+use bm_base::Version;
 use bm_core::Event;
 use bm_worker::Caller;
 use std::alloc::Global;
@@ -21,8 +21,6 @@ pub struct Leader {
     pub next: usize,
     /// How many versions are published.
     pub published: Version,
-    /// The clock of the last version published, or 0.
-    pub last_post: Moment,
     /// The controller's log of Publishes and Syncs.
     pub log: Vec<Event>,
 }
@@ -32,7 +30,7 @@ impl Leader {
     pub fn new(alloc: Global, caller: Caller) -> Leader
         ensures caller { result.caller ≡ caller }
         ensures next { result.next ≡ 0 }
-        ensures published { (result.published.0 ≡ 0) × (result.last_post.0 ≡ 0) }
+        ensures published { result.published.0 ≡ 0 }
         ensures log { result.log.items ≡ [] }
         ensures ready { (stage : Stage) (servers : List Serving) (posted : Posted) → IsSound stage
             → Begins stage servers posted caller → IsReady stage servers posted result }
@@ -43,7 +41,6 @@ impl Leader {
             caller,
             next: 0,
             published: Version(0),
-            last_post: Moment(0),
             log: Vec::new(alloc),
         }
     }

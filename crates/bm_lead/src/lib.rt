@@ -6,8 +6,6 @@ mod command;
 pub mod laws;
 mod lead;
 mod leader;
-mod rest;
 
 pub use lead::{lead_phase, sync};
 pub use leader::Leader;
-pub use rest::post_the_rest;

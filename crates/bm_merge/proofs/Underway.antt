@@ -1,7 +1,7 @@
 -- Logs that are underway, whether they come to the end or not, have no large clock.
 use Rattle.std.proofs.Common.{◌≡◌, ℕ, zero, suc, ◌+◌, ◌<◌, ◌≤◌, Bool, true, false, ◌||◌, inl, inr, List}
 use Rattle.std.proofs.Common.{[], ◌∷◌, ◌++◌, length, refl, sym, ◌∙◌, subst, arith, eqb}
-use Rattle.std.specs.Prelude.{IfSome, slice_get, reverse, ◌⊎◌}
+use Rattle.std.specs.Prelude.{IfSome, slice_get, reverse}
 use Rattle.std.specs.List.{AllByRecursion}
 use Rattle.std.proofs.lemmas.Bool.{cases_lt, or_right}
 use Rattle.bm_base.specs.declared.label.Hop.{Hop}
@@ -18,7 +18,7 @@ use Rattle.bm_core.specs.Accounts.{Rules}
 use Rattle.bm_core.specs.Threads.{last_own, is_command, moment_at}
 use Rattle.bm_merge.specs.Merges.{gathered, merged, is_clock, highest}
 use Rattle.bm_merge.specs.Notes.{Note, NotedLog, events_of, plain, all_notes, total, many, top_clock, is_earlier}
-use Rattle.bm_merge.specs.Workers.{notes_by, IsBefore, IsClocked, IsMeant, is_publish, IsUnderway, carries, HasSending}
+use Rattle.bm_merge.specs.Workers.{notes_by, IsBefore, IsClocked, IsMeant, IsUnderway, carries, HasSending}
 use Rattle.bm_merge.specs.Workers.{AreUnderway}
 use Rattle.bm_merge.proofs.Noting.{total_most, each_always, events_gathered}
 use Rattle.bm_merge.proofs.Reaching.{one_if}
@@ -81,29 +81,19 @@ top_of events rest n among low = top_source events (is_earlier n.command) rest n
 
 ordered : (stage : Stage) (events : List Event) (rest : List Note) (n : Note) (what : What) → n.event.what ≡ what
     → AreEarly stage → IsAmong (events_of rest) events
-    → IsMeant stage rest n what
-    ⊎ ((is_publish what ≡ true) × (n.event.clock.0 ≡ suc (top_clock (λ y. is_publish y.event.what) rest)))
-    → IsOrdered events n what
-ordered stage events rest n (Publish v) is early among (inl m) =
+    → IsMeant stage rest n what → IsOrdered events n what
+ordered stage events rest n (Publish v) is early among m =
     paced_from events n.event (top_clock (is_earlier n.command) rest)
     (change_moment (next_change stage.script.plan m.0)) (top_of events rest n among (omega (arith, m.2)))
     (inl (early.changes m.0)) m.2
-ordered stage events rest n (Publish v) is early among (inr added) =
-    paced_from events n.event (top_clock (λ y. is_publish y.event.what) rest) 0
-    (top_source events (λ y. is_publish y.event.what) rest n.event.clock.0 among (omega (arith, added.1)))
-    (inl (omega arith)) (added.1 ∙ omega arith)
-ordered stage events rest n (Close server flow closed) is early among (inl m) =
+ordered stage events rest n (Close server flow closed) is early among m =
     rw m.0 (max_cause events n.event.clock.0 (moment_at (slice_get stage.script.commands n.command))
     (top_clock (is_earlier n.command) rest) (inl (early.commands n.command))
     (source_cause events n.event.clock.0 _ (top_of events rest n among (omega (arith, m.0, m.1)))))
-ordered stage events rest n (Retire server h at result) is early among (inl m) =
+ordered stage events rest n (Retire server h at result) is early among m =
     rw m.0 (max_cause events n.event.clock.0 (moment_at (slice_get stage.script.commands n.command))
     (top_clock (is_earlier n.command) rest) (inl (early.commands n.command))
     (source_cause events n.event.clock.0 _ (top_of events rest n among (omega (arith, m.0, m.1)))))
-ordered stage events rest n (Close server flow closed) is early among (inr added) =
-    let bad : false ≡ true = added.0 in absurd (cc)
-ordered stage events rest n (Retire server h at result) is early among (inr added) =
-    let bad : false ≡ true = added.0 in absurd (cc)
 ordered stage events rest n Sync is early among m = tt
 ordered stage events rest n (Switch k v) is early among m = tt
 ordered stage events rest n (Steer k v) is early among m = tt

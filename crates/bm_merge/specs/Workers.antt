@@ -342,30 +342,17 @@ IsClocked stage all own n (Lose k hop) =
     (sending : ℕ) × IsBefore all n.event.clock.0 sending × (n.event.clock.0 ≡ sending + 1)
 IsClocked stage all own n (Publish v) = Unit {0}
 
--- the event is a Publish
-abbrev pub is_publish : What → Bool
-is_publish (Publish v) = true
-is_publish _ = false
-
--- a Publish at the clock after that of the last one
-abbrev pub IsAdded : List Note → Note → What → Type 0
-IsAdded rest n what =
-    (is_publish what ≡ true)
-    × (n.event.clock.0 ≡ suc (top_clock (λ y. is_publish y.event.what) rest))
-
--- what worker 0 did: by the script, or to publish the changes that are left once a worker has given
--- up
+-- what worker 0 did by the script
 pub record IsUnderway (stage : Stage) (rest : List Note) (n : Note) : Type 0 where
   pub kind : is_command n.event.what ≡ true
-  pub meant : IsMeant stage rest n n.event.what ⊎ IsAdded rest n n.event.what
+  pub meant : IsMeant stage rest n n.event.what
 
 -- worker m + 1 did this, where `notes` is all that it did
 abbrev pub IsCarried : ℕ → List Note → Note → Type 0
 IsCarried m notes n = (carries m n.event.what ≡ true) × HasSending notes n n.event.what
 
--- what holds of the logs and the workers while the run is in progress. The changes that are
--- published once a worker has given up may be below Syncs, and below Retires that were judged
--- without them, so these logs need not agree.
+-- what holds of the logs and the workers while the run is in progress, also once a worker has given
+-- up.
 pub record AreUnderway (F : Rules) (stage : Stage) (logs : List NotedLog) (controller : List Note)
     (carriers : List (List Note)) : Type 0 where
   pub sound : IsSound stage

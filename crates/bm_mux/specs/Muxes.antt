@@ -55,15 +55,11 @@ IsShown clocks clock _ = Unit {0}
 abbrev pub AreShown : MuxId → List ℕ → List Event → Type 0
 AreShown m clocks log = AllByRecursion (λ e. IsOwn m e.what × IsShown clocks e.clock.0 e.what) log
 
--- the log of a mux that learned these posts, and then looked
-pub record IsLogOf (mux : MuxState) (snapshot : Posted) (log : List Event) : Type 0 where
+-- the log of a mux that was shown a beginning of these posts
+pub record IsLogOf (mux : MuxState) (posted : Posted) (log : List Event) : Type 0 where
   pub log_is : log ≡ mux.log
-  -- what it was shown last
-  pub seen : Posted
-  pub posted : IsPosted seen
-  pub later : Continues mux.seen seen
-  pub learned : Continues snapshot seen
-  pub shown : AreShown mux.id seen.clocks log
+  pub posted_is : Continues mux.seen posted
+  pub shown : AreShown mux.id posted.clocks log
 
 -- CALLS
 

@@ -12,7 +12,7 @@ use crate::notes::Notes;
 use crate::{MuxItem, Steered};
 use bm_base::{Hop, List, Memory, Moment, MuxId, Version};
 use bm_core::{Event, Log, What};
-use bm_publish::{Guard, Look, Snapshot};
+use bm_publish::{Guard, Look, Poster, Snapshot};
 use std::alloc::Global;
 use std::marker::Model;
 
@@ -123,18 +123,17 @@ impl Mux {
         self.notes.clock
     }
 
-    /// The log, after the mux learned these posts and looked once more. Each Switch of the log is
-    /// to version 0 or to the version of a post that the mux was shown, which has a lower clock.
-    /// `Memory` where the look was refused.
-    pub fn into_log(self, snapshot: Snapshot) -> Result<Log, Memory>
-        requires { snapshot.board ≡ self.seen.board }
-        ensures { IfOk result (IsLogOf self snapshot) }
+    /// The log. What the mux was shown is a beginning of what the board's poster has posted, so each
+    /// Switch of the log is to version 0 or to that of one of these posts, which has a lower clock.
+    pub fn into_log(self, poster: &mut Poster) -> Log
+        requires { self.seen.board ≡ poster.old.board }
+        ensures kept { poster.new ≡ poster.old }
+        ensures log { IsLogOf self poster.old result }
     {
-        let Mux { mut look, notes } = self;
-        learn(&mut look, snapshot);
-        let guard = enter(&mut look)?;
-        let _look = guard.leave();
-        Ok(List::of(notes.log))
+        let Mux { look, notes } = self;
+        let Some(look) = look else { unreachable!() };
+        poster.posted_all(&look);
+        List::of(notes.log)
     }
 }
 

@@ -58,6 +58,12 @@ impl Look {
         Look { reader, snapshot }
     }
 
+    pub(crate) fn snapshot(&self) -> &Snapshot
+        ensures { result.now ≡ self.now }
+    {
+        &self.snapshot
+    }
+
     /// Learns these posts. From then on it shows nothing older.
     pub fn learn(&mut self, snapshot: Snapshot)
         requires { snapshot.board ≡ self.old.board }
@@ -98,12 +104,6 @@ impl Guard {
             reader: reading.leave(),
             snapshot,
         }
-    }
-
-    pub(crate) fn snapshot(&self) -> &Snapshot
-        ensures { result.now ≡ self.now }
-    {
-        &self.reading.get().snapshot
     }
 
     /// How many changes of the plan the table has. Takes no memory.

@@ -7,7 +7,7 @@ ghost use Rattle.left_right.specs.Sides.{view as seat_view};
 ghost use Rattle.bm_publish.specs.Inside.Boards.{IsRight, ShowsAllBut, changed_from};
 ghost use Rattle.bm_publish.specs.Posts.{Continues, last_post, last_version, with_post};
 
-use crate::look::{Guard, Look};
+use crate::look::Look;
 use crate::shown::{Giving, Kept, Post, Seeing, Shown, Taking};
 use crate::snapshot::{History, Snapshot};
 use bm_base::{List, Memory, Moment};
@@ -283,14 +283,14 @@ impl Poster {
         self.history.snapshot()
     }
 
-    /// A law: what a guard of this board shows is a prefix of what was posted, also after a refused
-    /// post. It does nothing.
-    pub fn posted_all(&mut self, guard: &Guard)
-        requires { guard.now.board ≡ self.old.board }
+    /// A law: what a look of this board has seen or learned of is a prefix of what was posted, also
+    /// after a refused post. It does nothing.
+    pub fn posted_all(&mut self, look: &Look)
+        requires { look.now.board ≡ self.old.board }
         ensures kept { self.new ≡ self.old }
-        ensures posted { Continues guard.now self.old }
+        ensures posted { Continues look.now self.old }
     {
-        self.history.was_posted(guard.snapshot());
+        self.history.was_posted(look.snapshot());
     }
 
     /// Drops the board. Waits for the looks that read.

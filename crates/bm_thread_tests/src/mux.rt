@@ -90,7 +90,7 @@ fn steer_beside_a_post<R: Abort + Wait>(
     mux.lost(2, Hop::Direct, clock).expect(rt, "memory");
     let items = full_batch(rt, alloc);
     mux.batch(items.as_slice(), &mut out).expect(rt, "memory");
-    let log = mux.into_log(poster.snapshot()).expect(rt, "memory");
+    let log = mux.into_log(poster);
     (clock, log, out)
 }
 

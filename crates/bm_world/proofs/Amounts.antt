@@ -9,7 +9,6 @@ use Rattle.bm_base.specs.declared.ids.MuxId.{MuxId}
 use Rattle.bm_table.specs.declared.script.Command.{Command}
 use Rattle.bm_table.specs.declared.script.Command.TheVariants.{Change as ChangeCommand, Close as CloseCommand}
 use Rattle.bm_table.specs.declared.script.Command.TheVariants.{Retire as RetireCommand, Sync as SyncCommand}
-use Rattle.bm_table.specs.Scripts.{NamesVersions}
 use Rattle.bm_core.specs.declared.events.Event.{Event}
 use Rattle.bm_core.specs.declared.events.Stage.{Stage}
 use Rattle.bm_core.specs.declared.events.What.{What}
@@ -209,14 +208,6 @@ syncs_few stage i x sound done =
     in let d = count_few wants_sync i stage.script.commands
     in let e = sound.script.few_commands
     in omega arith
-
--- at most as many changes as commands
-pub changes_few : (next top : ℕ) (x : List Command) → NamesVersions next top x → top + 1 ≤ next + length x
-changes_few next top [] names = omega arith
-changes_few next top (ChangeCommand v ∷ x) names = let old = changes_few (next + 1) top x names.1 in omega arith
-changes_few next top (CloseCommand at server flow ∷ x) names = let old = changes_few next top x names in omega arith
-changes_few next top (RetireCommand at server ∷ x) names = let old = changes_few next top x names in omega arith
-changes_few next top (SyncCommand at ∷ x) names = let old = changes_few next top x names in omega arith
 
 -- A PART OF A PHASE
 

@@ -29,11 +29,12 @@ use Rattle.bm_merge.proofs.Phasing.{met_shared}
 use Rattle.bm_merge.proofs.Reaching.{one_if}
 use Rattle.bm_world.specs.Inside.Shards.{notes_of}
 use Rattle.bm_mux.specs.Muxes.{post_clock}
+use Rattle.bm_world.specs.Inside.HandedBack.{AreHandedBack}
 use Rattle.bm_world.specs.Inside.Returned.{posted_clocks, control_log, IsMuxGivenBy, IsControlStep}
-use Rattle.bm_world.specs.Inside.Returned.{IsBookOfAll, AreHandedBack}
+use Rattle.bm_world.specs.Inside.Returned.{IsBookOfAll}
 use Rattle.bm_world.proofs.Homes.{home_is, carried_not_control}
 use Rattle.bm_world.proofs.Logs.{mux_logs, shard_logs, logs_of, book_notes, are_seated, own_logs}
-use Rattle.bm_world.proofs.InLogs.{are_workers, have_homes, have_seats, all_shared, all_carried, steered_once}
+use Rattle.bm_world.proofs.InLogs.{left_workers, left_homes, have_seats, left_shared, all_carried, steered_once}
 use Rattle.bm_world.proofs.Entries.{at_notes, at_so, control_entries, mux_entries, posts_count}
 use Rattle.bm_world.proofs.Booked.{book_entries, book_given, book_actors}
 
@@ -101,18 +102,18 @@ each_log P stage controller carriers books all control muxes shards = (
 
 pub agreed : (R : Routes) (F : Rules) (stage : Stage) (controller : List Note) (carriers : List (List Note))
     (books : List Book) (back : AreHandedBack R F stage controller carriers books)
-    → Agree stage (plain (logs_of stage controller carriers books back.kept))
+    → Agree stage (plain (logs_of stage controller carriers books back.left.kept))
 agreed R F stage controller carriers books back =
-    let logs = plain (logs_of stage controller carriers books back.kept)
+    let logs = plain (logs_of stage controller carriers books back.left.kept)
     in record {
-      sound = back.sound;
+      sound = back.left.sound;
       first = refl;
-      actors = own_logs stage controller carriers books back.kept back.own;
+      actors = own_logs stage controller carriers books back.left.kept back.left.own;
       once = steered_once R F stage controller carriers books back;
       entries = all_plain (λ l. AtEach (IsEntry stage logs l.actor) l.events)
-          (logs_of stage controller carriers books back.kept)
+          (logs_of stage controller carriers books back.left.kept)
           (each_log (λ l. AtEach (IsEntry stage logs l.actor) (events_of l.notes)) stage controller carriers books
-          back.kept (control_entries stage logs controller back.control)
+          back.left.kept (control_entries stage logs controller back.control)
           (mux_entries R F stage controller carriers books back)
           (book_entries R F stage controller carriers books back));
     }
@@ -210,10 +211,10 @@ mux_given_one stage logs control rest n (Retire server h moment result) is at st
 
 mux_given : (R : Routes) (F : Rules) (stage : Stage) (controller : List Note) (carriers : List (List Note))
     (books : List Book) (back : AreHandedBack R F stage controller carriers books) (m : ℕ) → m < length carriers
-    → AtEach (λ rest n. IsGiven stage (plain (logs_of stage controller carriers books back.kept)) rest
+    → AtEach (λ rest n. IsGiven stage (plain (logs_of stage controller carriers books back.left.kept)) rest
     (own_before stage rest n) n n.event.what) (home_part stage (MuxOf m) (notes_by carriers m))
 mux_given R F stage controller carriers books back m low =
-    let logs = plain (logs_of stage controller carriers books back.kept)
+    let logs = plain (logs_of stage controller carriers books back.left.kept)
     in let home = home_part stage (MuxOf m) (notes_by carriers m)
     in let control = control_log stage controller
     in at_so (λ n. is_home stage (MuxOf m) n ≡ true)
@@ -276,20 +277,20 @@ unmet_shard stage all rest n Sync s h home = absurd (cc)
 
 pub handed_back : (R : Routes) (F : Rules) (stage : Stage) (controller : List Note) (carriers : List (List Note))
     (books : List Book) (back : AreHandedBack R F stage controller carriers books)
-    → ArePromises R F stage (logs_of stage controller carriers books back.kept) controller carriers
+    → ArePromises R F stage (logs_of stage controller carriers books back.left.kept) controller carriers
 handed_back R F stage controller carriers books back =
-    let logs = logs_of stage controller carriers books back.kept
-    in let are = are_workers R F stage controller carriers books back
-    in let shared = all_shared R F stage controller carriers books back
+    let logs = logs_of stage controller carriers books back.left.kept
+    in let are = left_workers F stage controller carriers books back.left
+    in let shared = left_shared F stage controller carriers books back.left
     in let met : List Note → Note → Type 0 = λ rest n. IsMet stage (all_notes logs) (events_of rest) n n.event.what
     in record {
       agree = agreed R F stage controller carriers books back;
       muxes = back.muxes;
-      seated = are_seated stage controller carriers books back.kept are;
-      seats = have_seats stage controller carriers books back.kept are;
-      homes = have_homes R F stage controller carriers books back;
+      seated = are_seated stage controller carriers books back.left.kept are;
+      seats = have_seats stage controller carriers books back.left.kept are;
+      homes = left_homes F stage controller carriers books back.left;
       given = each_log (λ l. AtEach (λ rest n. IsGiven stage (plain logs) rest (own_before stage rest n) n n.event.what)
-          l.notes) stage controller carriers books back.kept
+          l.notes) stage controller carriers books back.left.kept
           (at_any (λ n. is_home stage Controller n ≡ true)
           (λ rest n. IsGiven stage (plain logs) rest (own_before stage rest n) n n.event.what)
           (home_part stage Controller controller)
@@ -301,7 +302,7 @@ handed_back R F stage controller carriers books back =
       carried = λ m low. (back.carried m low).carrier;
       steered = back.steered;
       phases = all_carried (IsInItsPhase stage (plain logs)) carriers (λ m low. (back.carried m low).phases);
-      met = each_log (λ l. AtEach met l.notes) stage controller carriers books back.kept
+      met = each_log (λ l. AtEach met l.notes) stage controller carriers books back.left.kept
           (at_change (λ rest n. IsMet stage (controller ++ notes_of_all carriers) (events_of rest) n n.event.what) met
           (home_part stage Controller controller)
           (λ rest n h. met_shared stage (controller ++ notes_of_all carriers) (all_notes logs) (events_of rest) n

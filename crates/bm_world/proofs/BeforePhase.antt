@@ -50,23 +50,15 @@ at_work_informed : (R : Routes) (F : Rules) (stage : Stage) (servers : List Serv
     → IsAtWork R F stage servers routes control board phases until m w notes
     → IsAtWork R F stage servers routes control board phases until m (with_posts posted w) notes
 at_work_informed R F stage servers routes control board phases until m posted w notes at = record {
+  going = at.going;
   carriage = at.carriage;
-  id = at.id;
-  logged = at.logged;
-  replies = at.replies;
-  copies = at.copies;
-  placed = at.placed;
   latest = at.latest;
   steered = at.steered;
   within = at.within;
-  number = at.number;
-  has_seats = at.has_seats;
-  board_is = at.board_is;
   plan = at.plan;
   tries = at.tries;
   steps = at.steps;
   room = at.room;
-  few = at.few;
   stop = at.stop;
 }
 
@@ -177,7 +169,7 @@ can_one F stage servers routes posted leader workers span m w sound between afte
     in let low = slice_get_within workers m w here
     in let muxes = between.standing.muxes
     in let most = sound.script.setting.muxes.1
-    in let id : w.mux.id.0 ≡ m = at.id
+    in let id : w.mux.id.0 ≡ m = at.going.id
     in let notes = notes_by between.carriers m
     in let records = sound.capture.few
     in let phases = few_syncs stage leader.next between.p sound between.at_phase.syncs
@@ -186,17 +178,17 @@ can_one F stage servers routes posted leader workers span m w sound between afte
     in let below : AllByRecursion (λ n. clock_of n < span.after.0) notes =
     subst (λ (k : ℕ). AllByRecursion (λ n. clock_of n < k) notes) (sym after) (between.apart.below m)
     in let log : mux_log stage w.mux.id.0 notes ≡ reverse w.mux.log =
-    ap (λ (k : ℕ). mux_log stage k notes) id ∙ sym at.logged
+    ap (λ (k : ℕ). mux_log stage k notes) id ∙ sym at.going.logged
     in (
       posted,
       refl,
       record {
         until = (order, within);
         after = let early = between.early in omega arith;
-        has_seats = at.has_seats;
+        has_seats = at.going.has_seats;
         mux = omega arith;
-        number = let number = at.number in omega arith;
-        posted = sym at.board_is;
+        number = let number = at.going.number in omega arith;
+        posted = sym at.going.board_is;
         plan = at.plan;
         older = subst (λ (l : List Event). AllByRecursion (IsOlder w.mux.id span.from span.after.0) l)
             (reverse-reverse w.mux.log)

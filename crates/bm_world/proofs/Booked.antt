@@ -36,10 +36,11 @@ use Rattle.bm_merge.proofs.Keeping.{no_notes}
 use Rattle.bm_merge.proofs.Reaching.{one_if}
 use Rattle.bm_world.specs.Inside.Shards.{Kept, entries_of, note_of, notes_of, IsAsked, AreAsked}
 use Rattle.bm_worker.specs.Phases.{mux_log, IsInOrder}
-use Rattle.bm_world.specs.Inside.Returned.{control_log, IsJudgedBy, IsCopied, IsBookOfAll, AreHandedBack}
+use Rattle.bm_world.specs.Inside.HandedBack.{AreHandedBack}
+use Rattle.bm_world.specs.Inside.Returned.{control_log, IsJudgedBy, IsCopied, IsBookOfAll}
 use Rattle.bm_world.proofs.Homes.{home_is, home_each}
 use Rattle.bm_world.proofs.Logs.{logs_of, book_notes, named_mux}
-use Rattle.bm_world.proofs.InLogs.{are_workers, all_sent}
+use Rattle.bm_world.proofs.InLogs.{left_workers, all_sent}
 use Rattle.bm_world.proofs.Sharded.{shard_entries, shard_clock, all_asked_here}
 
 -- BY SEATS
@@ -78,18 +79,18 @@ three P Q S (n ∷ x) a b c = ((a.0, b.0, c.0), three P Q S x a.1 b.1 c.1)
 
 done_by : (R : Routes) (F : Rules) (stage : Stage) (controller : List Note) (carriers : List (List Note))
     (books : List Book) (back : AreHandedBack R F stage controller carriers books) (a : Actor) (w : ℕ)
-    → AllByRecursion (IsDoneBy stage (plain (logs_of stage controller carriers books back.kept))
+    → AllByRecursion (IsDoneBy stage (plain (logs_of stage controller carriers books back.left.kept))
     (control_log stage controller) a w) (home_part stage a (notes_by (controller ∷ carriers) w))
 done_by R F stage controller carriers books back a zero =
-    let are = are_workers R F stage controller carriers books back
+    let are = left_workers F stage controller carriers books back.left
     in three (λ n. is_home stage a n ≡ true) (λ n. is_command n.event.what ≡ true)
     (λ n. IsJudgedBy stage (control_log stage controller) n.event.clock.0 n.event.what) (home_part stage a controller)
     (home_is stage a controller) (home_each (λ n. is_command n.event.what ≡ true) stage a controller are.commands)
     (home_each (λ n. IsJudgedBy stage (control_log stage controller) n.event.clock.0 n.event.what) stage a controller
     back.control.judged)
 done_by R F stage controller carriers books back a (suc m) =
-    let are = are_workers R F stage controller carriers books back
-    in let logs = plain (logs_of stage controller carriers books back.kept)
+    let are = left_workers F stage controller carriers books back.left
+    in let logs = plain (logs_of stage controller carriers books back.left.kept)
     in elim (cases_lt m (length carriers)) [
       | inl low ↦ three (λ n. is_home stage a n ≡ true) (λ n. carries m n.event.what ≡ true)
           (λ n. IsSentBefore logs n.event.clock.0 n.event.what) (home_part stage a (notes_by carriers m))
@@ -107,12 +108,12 @@ done_by R F stage controller carriers books back a (suc m) =
 labelled_named : (R : Routes) (F : Rules) (stage : Stage) (controller : List Note) (carriers : List (List Note))
     (books : List Book) (back : AreHandedBack R F stage controller carriers books) (packet : ℕ) (label : Label)
     → label_of stage (mux_log stage label.mux.0 (notes_by carriers label.mux.0)) packet ≡ Some label
-    → label_of stage (named (plain (logs_of stage controller carriers books back.kept)) (MuxOf label.mux.0)) packet
+    → label_of stage (named (plain (logs_of stage controller carriers books back.left.kept)) (MuxOf label.mux.0)) packet
     ≡ Some label
 labelled_named R F stage controller carriers books back packet label is =
     elim (cases_lt label.mux.0 (length carriers)) [
       | inl low ↦ subst (λ (l : List Event). label_of stage l packet ≡ Some label)
-          (sym (named_mux stage controller carriers books back.kept label.mux.0 low)) is
+          (sym (named_mux stage controller carriers books back.left.kept label.mux.0 low)) is
       | inr high ↦
           let none : label_of stage (mux_log stage label.mux.0 []) packet ≡ Some label =
           subst (λ (x : List Note). label_of stage (mux_log stage label.mux.0 x) packet ≡ Some label)
@@ -124,9 +125,9 @@ asked_one : (R : Routes) (F : Rules) (stage : Stage) (controller : List Note) (c
     (books : List Book) (back : AreHandedBack R F stage controller carriers books) (about : Shard) (k : Kept)
     (knows : Flow → Local) (clock : Moment) (call : ShardCall) (w : ℕ) → k.entry.call ≡ call
     → k.entry.event.what ≡ what_of about knows clock call → IsCopied stage carriers about call
-    → IsDoneBy stage (plain (logs_of stage controller carriers books back.kept)) (control_log stage controller)
+    → IsDoneBy stage (plain (logs_of stage controller carriers books back.left.kept)) (control_log stage controller)
     (ShardOf about.server.0 about.number) w (note_of k)
-    → IsAsked stage (plain (logs_of stage controller carriers books back.kept)) about k.entry.event.clock.0 call
+    → IsAsked stage (plain (logs_of stage controller carriers books back.left.kept)) about k.entry.event.clock.0 call
 asked_one R F stage controller carriers books back about k knows clock (Arrive packet tag segment due) zero is what
     copied done = absurd (let command = rw what at done.1 in cc)
 asked_one R F stage controller carriers books back about k knows clock (Arrive packet tag segment due) (suc m) is what
@@ -143,7 +144,7 @@ asked_one R F stage controller carriers books back about k knows clock (Arrive p
     }
 asked_one R F stage controller carriers books back about k knows clock (Close flow moment) w is what copied done =
     closed w done where
-      closed : (w : ℕ) → IsDoneBy stage (plain (logs_of stage controller carriers books back.kept))
+      closed : (w : ℕ) → IsDoneBy stage (plain (logs_of stage controller carriers books back.left.kept))
           (control_log stage controller) (ShardOf about.server.0 about.number) w (note_of k)
           → shard stage flow ≡ about.number
       closed zero d = eqb-true _ _ (and_parts (eqb about.server.0 about.server.0) (eqb (shard stage flow) about.number)
@@ -158,9 +159,9 @@ asked_one R F stage controller carriers books back about k knows clock (Retire m
 asked_all : (R : Routes) (F : Rules) (stage : Stage) (controller : List Note) (carriers : List (List Note))
     (books : List Book) (back : AreHandedBack R F stage controller carriers books) (about : Shard) (kept : List Kept)
     → Replays about (entries_of kept) → AllByRecursion (λ e. IsCopied stage carriers about e.call) (entries_of kept)
-    → AllByRecursion (λ n. IsDoneBy stage (plain (logs_of stage controller carriers books back.kept))
+    → AllByRecursion (λ n. IsDoneBy stage (plain (logs_of stage controller carriers books back.left.kept))
     (control_log stage controller) (ShardOf about.server.0 about.number) n.seat n) (notes_of kept)
-    → AreAsked stage (plain (logs_of stage controller carriers books back.kept)) about kept
+    → AreAsked stage (plain (logs_of stage controller carriers books back.left.kept)) about kept
 asked_all R F stage controller carriers books back about [] replays copied done = tt
 asked_all R F stage controller carriers books back about (k ∷ kept) replays copied done = (
   asked_one R F stage controller carriers books back about k (knows_after about (entries_of kept))
@@ -177,13 +178,13 @@ pub record IsLoggedBook (stage : Stage) (logs : List Log) (about : Shard) (kept 
 pub logged_book : (R : Routes) (F : Rules) (stage : Stage) (controller : List Note) (carriers : List (List Note))
     (books : List Book) (back : AreHandedBack R F stage controller carriers books) (b : Book)
     (is : IsBookOfAll stage controller carriers b)
-    → IsLoggedBook stage (plain (logs_of stage controller carriers books back.kept)) b.shard
+    → IsLoggedBook stage (plain (logs_of stage controller carriers books back.left.kept)) b.shard
     (book_notes stage controller carriers b is).kept
 logged_book R F stage controller carriers books back b is =
     let about = b.shard
     in let a : Actor = ShardOf about.server.0 about.number
     in let notes = book_notes stage controller carriers b is
-    in let logs = plain (logs_of stage controller carriers books back.kept)
+    in let logs = plain (logs_of stage controller carriers books back.left.kept)
     in let P : ℕ → Note → Type 0 = IsDoneBy stage logs (control_log stage controller) a
     in let replays : Replays about (entries_of notes.kept) =
     subst (λ (l : List ShardEntry). Replays about l) (sym notes.entries_are) is.replays
@@ -199,11 +200,11 @@ logged_book R F stage controller carriers books back b is =
 pub book_entries : (R : Routes) (F : Rules) (stage : Stage) (controller : List Note) (carriers : List (List Note))
     (books : List Book) (back : AreHandedBack R F stage controller carriers books) (b : Book)
     (is : IsBookOfAll stage controller carriers b)
-    → AtEach (IsEntry stage (plain (logs_of stage controller carriers books back.kept))
+    → AtEach (IsEntry stage (plain (logs_of stage controller carriers books back.left.kept))
     (ShardOf b.shard.server.0 b.shard.number)) (events_of (notes_of (book_notes stage controller carriers b is).kept))
 book_entries R F stage controller carriers books back b is =
     let known = logged_book R F stage controller carriers books back b is
-    in shard_entries stage (plain (logs_of stage controller carriers books back.kept)) b.shard
+    in shard_entries stage (plain (logs_of stage controller carriers books back.left.kept)) b.shard
     (book_notes stage controller carriers b is).kept is.of known.replays known.asked
 
 -- THE CLOCKS AND THE ORDER AT A SHARD
@@ -304,7 +305,7 @@ worker_order : (R : Routes) (F : Rules) (stage : Stage) (controller : List Note)
     (books : List Book) (back : AreHandedBack R F stage controller carriers books) (w : ℕ)
     → AtEach (λ rest n. IsInOrder rest n.event.what) (notes_by (controller ∷ carriers) w)
 worker_order R F stage controller carriers books back zero =
-    commands_order controller (are_workers R F stage controller carriers books back).commands
+    commands_order controller (left_workers F stage controller carriers books back.left).commands
 worker_order R F stage controller carriers books back (suc m) = elim (cases_lt m (length carriers)) [
   | inl low ↦ (back.carried m low).ordered
   | inr high ↦ subst (λ (x : List Note). AtEach (λ rest n. IsInOrder rest n.event.what) x)
@@ -408,14 +409,14 @@ book_actors stage controller carriers b is =
 pub book_given : (R : Routes) (F : Rules) (stage : Stage) (controller : List Note) (carriers : List (List Note))
     (books : List Book) (back : AreHandedBack R F stage controller carriers books) (b : Book)
     (is : IsBookOfAll stage controller carriers b)
-    → AtEach (λ rest n. IsGiven stage (plain (logs_of stage controller carriers books back.kept)) rest
+    → AtEach (λ rest n. IsGiven stage (plain (logs_of stage controller carriers books back.left.kept)) rest
     (own_before stage rest n) n n.event.what) (notes_of (book_notes stage controller carriers b is).kept)
 book_given R F stage controller carriers books back b is =
     let known = logged_book R F stage controller carriers books back b is
     in let notes = book_notes stage controller carriers b is
     in let a : Actor = ShardOf b.shard.server.0 b.shard.number
     in let P : Note → Type 0 = λ n. is_by (actor_of stage n.event.what) a ≡ true
-    in given_all stage (plain (logs_of stage controller carriers books back.kept)) b.shard notes.kept known.replays
+    in given_all stage (plain (logs_of stage controller carriers books back.left.kept)) b.shard notes.kept known.replays
     known.asked
     (book_actors stage controller carriers b is)
     (seats_order (notes_of notes.kept) (λ w. subst (λ (x : List Note). AtEach (λ rest n. IsInOrder rest n.event.what) x)

@@ -22,14 +22,14 @@ use Rattle.bm_core.specs.declared.events.What.TheVariants.{Publish, Switch, Stee
 use Rattle.bm_core.specs.Accounts.{Routes, Rules, steers_packet}
 use Rattle.bm_core.specs.Past.{segment_of, shard, newest, steerable}
 use Rattle.std.proofs.lemmas.Option.{slice_get_past}
+use Rattle.bm_core.specs.Runs.{AtEach}
 use Rattle.bm_core.specs.Runs.Actor.{Controller}
 use Rattle.bm_core.specs.Stages.{IsSound}
 use Rattle.bm_core.specs.Threads.{is_command}
 use Rattle.bm_shard.specs.Books.{Book}
 use Rattle.bm_merge.specs.Notes.{Note, events_of, many, total}
-use Rattle.bm_merge.specs.Workers.{home_part, notes_by, notes_of_all, IsController, IsMet, carries}
+use Rattle.bm_merge.specs.Workers.{home_part, notes_by, notes_of_all, IsCommanded, IsController, IsMet, IsUnderway, carries}
 use Rattle.bm_merge.proofs.Commanding.{all_kinds}
-use Rattle.bm_merge.proofs.Keeping.{no_notes}
 use Rattle.bm_merge.proofs.Noting.{each_append, each_so}
 use Rattle.bm_merge.proofs.Phasing.{met_shared}
 use Rattle.bm_merge.proofs.Reaching.{one_if}
@@ -40,14 +40,18 @@ use Rattle.bm_worker.specs.WorkerNotes.{HasServer, AreServersOf}
 use Rattle.bm_worker.specs.Phases.{mux_log, IsPlaced, AreCopies}
 use Rattle.bm_worker.specs.Assigned.{is_mux, assigned_mux}
 use Rattle.bm_worker.specs.declared.worker.MuxWorker.{MuxWorker}
-use Rattle.bm_world.specs.Inside.Returned.{control_log, posted_clocks, IsControl, IsBooked, has_book, AreHandedBack}
-use Rattle.bm_world.specs.Inside.Running.{HaveReplies, AreAtWork, HaveLooked}
+use Rattle.bm_world.specs.Inside.HandedBack.{AreHandedBack}
+use Rattle.bm_world.specs.Inside.Returned.{control_log, posted_clocks, IsControl, IsBooked, has_book}
+use Rattle.bm_world.specs.Inside.Going.{HaveReplies, IsGoing}
+use Rattle.bm_world.specs.Inside.Left.{AreLeft, IsSynced}
+use Rattle.bm_world.specs.Inside.Running.{AreAtWork, HaveLooked}
 use Rattle.bm_lead.specs.Leads.{IsPlaced as IsLedAt}
 use Rattle.bm_world.specs.Inside.Routed.{AreRouted}
 use Rattle.bm_world.specs.Inside.Served.{AreBooksThere}
 use Rattle.bm_world.specs.Inside.RunStates.{rows_of}
 use Rattle.bm_world.proofs.Assembled.{at_change}
-use Rattle.bm_world.proofs.InLogs.{all_carried}
+use Rattle.bm_world.proofs.GivingUp.{all_synced, left_later}
+use Rattle.bm_world.proofs.InLogs.{all_carried, notes_each}
 use Rattle.bm_world.proofs.Finishing.{AreDone, all_books, has_shard, own_books, books_of_all}
 use Rattle.bm_world.proofs.Growing.{carriage_later}
 
@@ -182,6 +186,145 @@ carried_booked stage servers rows all Sync servers_are count some books is at = 
 carried_booked stage servers rows all (Close server flow closed) servers_are count some books is at = absurd (cc)
 carried_booked stage servers rows all (Retire server h moment result) servers_are count some books is at = absurd (cc)
 
+pub row_of : (workers : List MuxWorker) (m : ℕ) (seats : List (List Seated))
+    → slice_get (map (λ (w : MuxWorker). w.caller.seats) workers) m ≡ Some seats
+    → (w : MuxWorker) × (slice_get workers m ≡ Some w) × (w.caller.seats ≡ seats)
+row_of [] m seats here = absurd (cc)
+row_of (w ∷ workers) zero seats here = (w, refl, same_Some _ _ here)
+row_of (w ∷ workers) (suc m) seats here = row_of workers m seats here
+
+pub carried_no_command : (m : ℕ) (what : What) → carries m what ≡ true → is_command what ≡ false
+carried_no_command m (Switch x v) h = refl
+carried_no_command m (Steer k x) h = refl
+carried_no_command m (Arrive k hop server verdict) h = refl
+carried_no_command m (Lose k hop) h = refl
+carried_no_command m (Publish v) h = absurd (cc)
+carried_no_command m (Close server flow closed) h = absurd (cc)
+carried_no_command m (Retire server x at result) h = absurd (cc)
+carried_no_command m Sync h = absurd (cc)
+
+each_two : (P Q S : Note → Type 0) (x : List Note) → ((n : Note) → P n → Q n → S n) → AllByRecursion P x
+    → AllByRecursion Q x → AllByRecursion S x
+each_two P Q S [] f ps qs = tt
+each_two P Q S (n ∷ x) f ps qs = (f n ps.0 qs.0, each_two P Q S x f ps.1 qs.1)
+
+-- WHETHER A WORKER GAVE UP OR NOT
+
+-- the script asks for all that worker 0 did
+underway : (stage : Stage) (x : List Note) → AtEach (IsCommanded stage) x → AtEach (IsUnderway stage) x
+underway stage [] each = tt
+underway stage (n ∷ x) each = (record { kind = each.0.kind; meant = each.0.meant }, underway stage x each.1)
+
+rows_have : (stage : Stage) (servers : List Serving) (leader : List (List Seated)) (workers : List MuxWorker)
+    (controller : List Note) (carriers : List (List Note)) → HaveReplies stage servers leader controller
+    → ((m : ℕ) (w : MuxWorker) → slice_get workers m ≡ Some w
+    → HaveReplies stage servers w.caller.seats (notes_by carriers m))
+    → (w : ℕ) (seats : List (List Seated)) → slice_get (rows_of leader workers) w ≡ Some seats
+    → HaveReplies stage servers seats (notes_by (controller ∷ carriers) w)
+rows_have stage servers leader workers controller carriers first others zero seats here =
+    subst (λ (x : List (List Seated)). HaveReplies stage servers x controller) (same_Some leader seats here) first
+rows_have stage servers leader workers controller carriers first others (suc m) seats here =
+    let w = row_of workers m seats here
+    in subst (λ (x : List (List Seated)). HaveReplies stage servers x (notes_by carriers m)) w.2 (others m w.0 w.1)
+
+-- what the code has once all logs are taken and all seats are back
+pub record IsOver (F : Rules) (stage : Stage) (servers : List Serving) (routes : List (Option MuxId)) (board : Board)
+    (phases until : ℕ) (workers : List MuxWorker) (leader : List (List Seated)) (controller : List Note)
+    (carriers : List (List Note)) (all : List (List Book)) : Type 0 where
+  pub sound : IsSound stage
+  pub servers_are : AreServersOf stage servers
+  pub seats : (s : ℕ) (server : Serving) → slice_get servers s ≡ Some server → server.seats ≡ suc (length workers)
+  pub commands : AtEach (IsCommanded stage) controller
+  pub first : AllByRecursion (λ n. n.seat ≡ 0) controller
+  pub replies : HaveReplies stage servers leader controller
+  pub led_at : AllByRecursion (λ n. IsLedAt stage servers n.event.what) controller
+  pub count : length carriers ≡ length workers
+  pub each : (m : ℕ) (w : MuxWorker) → slice_get workers m ≡ Some w
+      → IsGoing F stage servers routes (control_log stage controller) board phases until m w.mux w.caller
+      (notes_by carriers m)
+  pub synced : AllByRecursion (λ n. IsSynced stage (controller ++ notes_of_all carriers) n n.event.what) controller
+  pub shown : (m : ℕ) (w : MuxWorker) → slice_get workers m ≡ Some w
+      → IsPrefix w.mux.seen.clocks (posted_clocks (control_log stage controller))
+  pub all_books_count : length all ≡ length servers
+  pub books : (s : ℕ) (books : List Book) → slice_get all s ≡ Some books
+      → AreBooksThere servers (rows_of leader workers) s books
+
+over_done : (F : Rules) (stage : Stage) (servers : List Serving) (routes : List (Option MuxId)) (board : Board)
+    (phases until : ℕ) (workers : List MuxWorker) (leader : List (List Seated)) (controller : List Note)
+    (carriers : List (List Note)) (all : List (List Book))
+    → IsOver F stage servers routes board phases until workers leader controller carriers all
+    → AreDone stage servers (rows_of leader workers) controller carriers
+over_done F stage servers routes board phases until workers leader controller carriers all over =
+    let count = over.count
+    in let lines : length (map (λ (w : MuxWorker). w.caller.seats) workers) ≡ length workers =
+    length-map workers (λ (w : MuxWorker). w.caller.seats)
+    in record {
+      servers_are = over.servers_are;
+      lines = omega arith;
+      seats = λ s server here. (let n = over.seats s server here in omega arith);
+      commands = all_kinds stage controller over.commands;
+      first = over.first;
+      others = notes_each (λ m n. n.seat ≡ suc m) carriers (λ m low.
+          let w = there workers m (omega arith) in (over.each m w.0 w.1).left.seats);
+      replies = rows_have stage servers leader workers controller carriers over.replies
+          (λ m w here. (over.each m w here).replies);
+      copies = λ m seats here.
+          let w = row_of workers m seats here
+          in let at = over.each m w.0 w.1
+          in (
+            w.0.mux.id,
+            at.id,
+            subst (λ (y : List (List Seated)). AreCopies stage w.0.mux.id servers
+                (mux_log stage m (notes_by carriers m)) y) w.2
+                (subst (λ (l : List Event). AreCopies stage w.0.mux.id servers l w.0.caller.seats) at.logged at.copies),
+          );
+    }
+
+over_booked : (F : Rules) (stage : Stage) (servers : List Serving) (routes : List (Option MuxId)) (board : Board)
+    (phases until : ℕ) (workers : List MuxWorker) (leader : List (List Seated)) (controller : List Note)
+    (carriers : List (List Note)) (all : List (List Book))
+    → IsOver F stage servers routes board phases until workers leader controller carriers all
+    → AllByRecursion (λ n. IsBooked stage (all_books all) n.event.what) (controller ++ notes_of_all carriers)
+over_booked F stage servers routes board phases until workers leader controller carriers all over =
+    let count = over.count
+    in let shards = over.sound.script.setting.shards.0
+    in let rows = rows_of leader workers
+    in let B : Note → Type 0 = λ n. IsBooked stage (all_books all) n.event.what
+    in each_append B controller (notes_of_all carriers)
+    (each_two (λ n. is_command n.event.what ≡ true) (λ n. IsLedAt stage servers n.event.what) B controller
+    (λ n is at. led_booked stage servers rows all n.event.what over.servers_are over.all_books_count (omega arith)
+    over.books is at) (all_kinds stage controller over.commands) over.led_at)
+    (all_carried B carriers (λ m low.
+    let w = there workers m (omega arith)
+    in let one = over.each m w.0 w.1
+    in each_two (λ n. carries m n.event.what ≡ true) (λ n. IsPlaced servers n.event.what) B (notes_by carriers m)
+    (λ n is at. carried_booked stage servers rows all n.event.what over.servers_are over.all_books_count (omega arith)
+    over.books (carried_no_command m n.event.what is) at) one.left.kinds one.placed))
+
+pub over_left : (F : Rules) (stage : Stage) (servers : List Serving) (routes : List (Option MuxId)) (board : Board)
+    (phases until : ℕ) (workers : List MuxWorker) (leader : List (List Seated)) (controller : List Note)
+    (carriers : List (List Note)) (all : List (List Book))
+    → IsOver F stage servers routes board phases until workers leader controller carriers all
+    → AreLeft F stage controller carriers (all_books all)
+over_left F stage servers routes board phases until workers leader controller carriers all over =
+    let count = over.count
+    in let rows = rows_of leader workers
+    in let control = control_log stage controller
+    in record {
+      sound = over.sound;
+      controls = underway stage controller over.commands;
+      seats = over.first;
+      synced = over.synced;
+      each = λ m low.
+          let w = there workers m (omega arith)
+          in left_later F stage control [] w.0.mux.seen.clocks (posted_clocks control) m (notes_by carriers m)
+          (over.shown m w.0 w.1) (over.each m w.0 w.1).left;
+      kept = books_of_all stage servers rows controller carriers all
+          (over_done F stage servers routes board phases until workers leader controller carriers all over) over.books;
+      own = own_books servers rows all over.servers_are.rise over.books;
+      booked = over_booked F stage servers routes board phases until workers leader controller carriers all over;
+    }
+
 -- TOGETHER
 
 pub record IsEnded (R : Routes) (F : Rules) (stage : Stage) (servers : List Serving) (routes : List (Option MuxId))
@@ -204,62 +347,6 @@ pub record IsEnded (R : Routes) (F : Rules) (stage : Stage) (servers : List Serv
   pub shown : (m : ℕ) (w : MuxWorker) → slice_get workers m ≡ Some w
       → IsPrefix w.mux.seen.clocks (posted_clocks (control_log stage controller))
 
-pub row_of : (workers : List MuxWorker) (m : ℕ) (seats : List (List Seated))
-    → slice_get (map (λ (w : MuxWorker). w.caller.seats) workers) m ≡ Some seats
-    → (w : MuxWorker) × (slice_get workers m ≡ Some w) × (w.caller.seats ≡ seats)
-row_of [] m seats here = absurd (cc)
-row_of (w ∷ workers) zero seats here = (w, refl, same_Some _ _ here)
-row_of (w ∷ workers) (suc m) seats here = row_of workers m seats here
-
-notes_each : (P : ℕ → Note → Type 0) (carriers : List (List Note))
-    → ((m : ℕ) → m < length carriers → AllByRecursion (P m) (notes_by carriers m))
-    → (m : ℕ) → AllByRecursion (P m) (notes_by carriers m)
-notes_each P carriers each m = elim (cases_lt m (length carriers)) [
-  | inl low ↦ each m low
-  | inr high ↦ subst (λ (x : List Note). AllByRecursion (P m) x) (sym (no_notes carriers m high)) tt
-]
-
-have_of : (R : Routes) (F : Rules) (stage : Stage) (servers : List Serving) (routes : List (Option MuxId))
-    (board : Board) (p phases : ℕ) (workers : List MuxWorker) (leader : List (List Seated)) (controller : List Note)
-    (carriers : List (List Note)) → IsEnded R F stage servers routes board p phases workers leader controller carriers
-    → (w : ℕ) (seats : List (List Seated)) → slice_get (rows_of leader workers) w ≡ Some seats
-    → HaveReplies stage servers seats (notes_by (controller ∷ carriers) w)
-have_of R F stage servers routes board p phases workers leader controller carriers end zero seats here =
-    subst (λ (x : List (List Seated)). HaveReplies stage servers x controller) (same_Some leader seats here) end.replies
-have_of R F stage servers routes board p phases workers leader controller carriers end (suc m) seats here =
-    let w = row_of workers m seats here
-    in subst (λ (x : List (List Seated)). HaveReplies stage servers x (notes_by carriers m)) w.2
-    (end.at_work.each m w.0 w.1).replies
-
-are_done : (R : Routes) (F : Rules) (stage : Stage) (servers : List Serving) (routes : List (Option MuxId))
-    (board : Board) (p phases : ℕ) (workers : List MuxWorker) (leader : List (List Seated)) (controller : List Note)
-    (carriers : List (List Note)) → IsEnded R F stage servers routes board p phases workers leader controller carriers
-    → AreDone stage servers (rows_of leader workers) controller carriers
-are_done R F stage servers routes board p phases workers leader controller carriers end =
-    let count = end.at_work.count
-    in let lines : length (map (λ (w : MuxWorker). w.caller.seats) workers) ≡ length workers =
-    length-map workers (λ (w : MuxWorker). w.caller.seats)
-    in record {
-      servers_are = end.servers_are;
-      lines = omega arith;
-      seats = λ s server here. let n = end.seats s server here in omega arith;
-      commands = all_kinds stage controller end.controls.each;
-      first = end.control.seats;
-      others = notes_each (λ m n. n.seat ≡ suc m) carriers (λ m low.
-          let w = there workers m (omega arith) in (end.at_work.each m w.0 w.1).carriage.seats);
-      replies = have_of R F stage servers routes board p phases workers leader controller carriers end;
-      copies = λ m seats here.
-          let w = row_of workers m seats here
-          in let at = end.at_work.each m w.0 w.1
-          in (
-            w.0.mux.id,
-            at.id,
-            subst (λ (x : List (List Seated)). AreCopies stage w.0.mux.id servers
-                (mux_log stage m (notes_by carriers m)) x) w.2
-                (subst (λ (l : List Event). AreCopies stage w.0.mux.id servers l w.0.caller.seats) at.logged at.copies),
-          );
-    }
-
 all_steered : (R : Routes) (F : Rules) (stage : Stage) (servers : List Serving) (routes : List (Option MuxId))
     (board : Board) (p phases : ℕ) (workers : List MuxWorker) (leader : List (List Seated)) (controller : List Note)
     (carriers : List (List Note)) → IsEnded R F stage servers routes board p phases workers leader controller carriers
@@ -281,21 +368,6 @@ all_tt : (x : List Note) → AllByRecursion (λ (n : Note). Unit {0}) x
 all_tt [] = tt
 all_tt (n ∷ x) = (tt, all_tt x)
 
-each_two : (P Q S : Note → Type 0) (x : List Note) → ((n : Note) → P n → Q n → S n) → AllByRecursion P x
-    → AllByRecursion Q x → AllByRecursion S x
-each_two P Q S [] f ps qs = tt
-each_two P Q S (n ∷ x) f ps qs = (f n ps.0 qs.0, each_two P Q S x f ps.1 qs.1)
-
-pub carried_no_command : (m : ℕ) (what : What) → carries m what ≡ true → is_command what ≡ false
-carried_no_command m (Switch x v) h = refl
-carried_no_command m (Steer k x) h = refl
-carried_no_command m (Arrive k hop server verdict) h = refl
-carried_no_command m (Lose k hop) h = refl
-carried_no_command m (Publish v) h = absurd (cc)
-carried_no_command m (Close server flow closed) h = absurd (cc)
-carried_no_command m (Retire server x at result) h = absurd (cc)
-carried_no_command m Sync h = absurd (cc)
-
 -- what the workers and the books have given back
 pub ended : (R : Routes) (F : Rules) (stage : Stage) (servers : List Serving) (routes : List (Option MuxId))
     (board : Board) (p phases : ℕ) (workers : List MuxWorker) (leader : List (List Seated)) (controller : List Note)
@@ -308,12 +380,27 @@ ended R F stage servers routes board p phases workers leader controller carriers
     let at = end.at_work
     in let long = at.count
     in let muxes = end.muxes
-    in let done = are_done R F stage servers routes board p phases workers leader controller carriers end
-    in let shards = end.sound.script.setting.shards.0
     in let control = control_log stage controller
-    in let booked : Note → Type 0 = λ n. IsBooked stage (all_books all) n.event.what
-    in record {
+    in let over : IsOver F stage servers routes board phases (length stage.capture.records) workers leader controller
+    carriers all = record {
       sound = end.sound;
+      servers_are = end.servers_are;
+      seats = end.seats;
+      commands = end.controls.each;
+      first = end.control.seats;
+      replies = end.replies;
+      led_at = end.led_at;
+      count = long;
+      each = λ m w here. (at.each m w here).going;
+      synced = all_synced stage at.all (controller ++ notes_of_all carriers) controller
+          (λ f. let s = at.same f in omega arith) at.phased.met;
+      shown = end.shown;
+      all_books_count = count;
+      books = books;
+    }
+    in record {
+      left = over_left F stage servers routes board phases (length stage.capture.records) workers leader controller
+          carriers all over;
       muxes = long ∙ muxes;
       controls = end.controls;
       control = end.control;
@@ -332,19 +419,4 @@ ended R F stage servers routes board p phases workers leader controller carriers
           at.phased.met;
       changes = end.changes;
       looked = end.looked;
-      kept = books_of_all stage servers (rows_of leader workers) controller carriers all done books;
-      own = own_books servers (rows_of leader workers) all end.servers_are.rise books;
-      booked = each_append booked controller (notes_of_all carriers)
-          (each_two (λ n. is_command n.event.what ≡ true) (λ n. IsLedAt stage servers n.event.what) booked controller
-          (λ n k l. led_booked stage servers (rows_of leader workers) all n.event.what end.servers_are count (omega arith) books
-          k l)
-          done.commands end.led_at)
-          (all_carried booked carriers (λ m low.
-          let w = there workers m (omega arith)
-          in let one = at.each m w.0 w.1
-          in each_two (λ n. carries m n.event.what ≡ true) (λ n. IsPlaced servers n.event.what) booked
-          (notes_by carriers m)
-          (λ n k l. carried_booked stage servers (rows_of leader workers) all n.event.what end.servers_are count (omega arith)
-          books
-          (carried_no_command m n.event.what k) l) one.carriage.carrier.kinds one.placed));
     }

@@ -30,8 +30,8 @@ use Rattle.bm_base.specs.declared.flow.Segment.{Segment}
 use Rattle.bm_merge.proofs.Standing.{entry_of}
 use Rattle.bm_mux.specs.Muxes.{post_clock}
 use Rattle.bm_worker.specs.Phases.{mux_log}
+use Rattle.bm_world.specs.Inside.HandedBack.{AreHandedBack}
 use Rattle.bm_world.specs.Inside.Returned.{posted_clocks, control_log, IsMuxGivenBy, IsControlStep, IsControl}
-use Rattle.bm_world.specs.Inside.Returned.{AreHandedBack}
 use Rattle.bm_world.proofs.Homes.{home_is, home_each, carried_not_control}
 use Rattle.bm_world.proofs.Logs.{mux_logs, shard_logs, logs_of}
 use Rattle.bm_world.proofs.InLogs.{all_among, IsAmong, steered_known, all_sent}
@@ -266,10 +266,10 @@ control_among stage logs control g some = some_append g (gathered (plain logs)) 
 
 pub mux_entries : (R : Routes) (F : Rules) (stage : Stage) (controller : List Note) (carriers : List (List Note))
     (books : List Book) (back : AreHandedBack R F stage controller carriers books) (m : ℕ) → m < length carriers
-    → AtEach (IsEntry stage (plain (logs_of stage controller carriers books back.kept)) (MuxOf m))
+    → AtEach (IsEntry stage (plain (logs_of stage controller carriers books back.left.kept)) (MuxOf m))
     (mux_log stage m (notes_by carriers m))
 mux_entries R F stage controller carriers books back m low =
-    let logs = plain (logs_of stage controller carriers books back.kept)
+    let logs = plain (logs_of stage controller carriers books back.left.kept)
     in let notes = notes_by carriers m
     in let c = back.carried m low
     in let control = control_log stage controller
@@ -281,9 +281,9 @@ mux_entries R F stage controller carriers books back m low =
     (λ rest n. IsEntry stage logs (MuxOf m) (events_of rest) n.event) home
     (λ rest n work gives. mux_entry stage logs control m notes (events_of rest) n n.event.what refl (omega arith)
     back.control.steps refl
-    (λ g some. control_among stage (mux_logs stage 0 carriers ++ shard_logs stage controller carriers books back.kept)
+    (λ g some. control_among stage (mux_logs stage 0 carriers ++ shard_logs stage controller carriers books back.left.kept)
     (home_part stage Controller controller) g some)
-    (steered_known stage carriers back.steered m) work gives)
+    (λ k one. steered_known stage notes k (back.left.each m low).steerable one) work gives)
     (works stage logs m notes home (home_is stage (MuxOf m) notes)
     (home_each (λ n. carries m n.event.what ≡ true) stage (MuxOf m) notes c.carrier.kinds)
     (home_each (IsAmong notes) stage (MuxOf m) notes (all_among notes))

@@ -8,26 +8,23 @@ use Rattle.std.proofs.lemmas.Bool.{cases_lt, eq-eqb, and_parts, and_from, or_lef
 use Rattle.std.proofs.lemmas.Bool.{ltb-true}
 use mathlib.Core.List.{IsPrefix}
 use Rattle.bm_base.specs.declared.ids.MuxId.{MuxId}
-use Rattle.bm_base.proofs.Hops.{same_hop_refl}
 use Rattle.bm_core.specs.declared.events.Event.{Event}
 use Rattle.bm_core.specs.declared.events.Stage.{Stage}
 use Rattle.bm_core.specs.declared.events.What.{What}
 use Rattle.bm_core.specs.declared.events.What.TheVariants.{Publish, Switch, Steer, Lose, Arrive, Close, Retire, Sync}
-use Rattle.bm_core.specs.Accounts.{Routes, Rules, is_sync, loses, steers_packet}
+use Rattle.bm_core.specs.Accounts.{Rules, is_sync}
 use Rattle.bm_core.specs.Past.{segment_of}
 use Rattle.bm_core.specs.Runs.{AtEach, is_by}
 use Rattle.bm_core.specs.Runs.Actor.{Controller}
-use Rattle.bm_core.specs.Threads.{sync_clock, newest_before}
+use Rattle.bm_core.specs.Threads.{sync_clock}
 use Rattle.bm_merge.specs.Notes.{Note, events_of, total, many, until, top_clock}
-use Rattle.bm_merge.specs.Workers.{home_of, home_part, is_home, carries, is_below, is_lost, is_copyless, IsAnswer}
-use Rattle.bm_merge.specs.Workers.{IsBefore, IsCarrier, IsDrawn, IsMet, HasSending}
+use Rattle.bm_merge.specs.Workers.{home_of, home_part, is_home, carries, is_below, is_copyless}
+use Rattle.bm_merge.specs.Workers.{IsBefore, IsDrawn, IsMet, HasSending}
 use Rattle.bm_merge.proofs.Noting.{total_append, each_append, each_so}
 use Rattle.bm_merge.proofs.Reaching.{one_if}
 use Rattle.bm_worker.specs.Phases.{mux_log, IsLossOf, IsMuxGiven}
 use Rattle.bm_worker.specs.Assigned.{assigned_mux, is_mux, is_assigned}
-use Rattle.bm_world.specs.Inside.Returned.{IsCarriage, IsMuxGivenBy}
 use Rattle.bm_world.specs.Inside.Left.{IsSyncIn, IsMuxClocked, IsSteerable, IsLeft, IsSynced}
-use Rattle.bm_world.proofs.InLogs.{IsAmong, all_among}
 use Rattle.bm_world.proofs.Growing.{post_more, log_append, has_sending_more}
 
 -- SYNCS THAT THERE ARE
@@ -49,14 +46,6 @@ pub sync_append : (y control : List Event) (c : ℕ) → IsSyncIn control c → 
 sync_append [] control c is = is
 sync_append (e ∷ y) control c is = sync_more e (y ++ control) c (sync_append y control c is)
 
-sync_until : (control : List Event) (clock : ℕ) → IsSyncIn control (sync_clock (until clock control))
-sync_until [] clock = inl refl
-sync_until (e ∷ control) clock = go (leb e.clock.0 clock) (sync_until control clock) where
-  go : (b : Bool) → IsSyncIn control (sync_clock (until clock control))
-      → IsSyncIn (e ∷ control) (sync_clock (cond b (e ∷ control) (until clock control)))
-  go true old = sync_some (e ∷ control)
-  go false old = sync_more e control (sync_clock (until clock control)) old
-
 -- CLOCKS
 
 clocked_of : (stage : Stage) (after first : ℕ) (control : List Event) (posts posts' : List ℕ) (rest : List Event)
@@ -73,19 +62,6 @@ clocked_of stage after first control posts posts' rest clock (Close server flow 
 clocked_of stage after first control posts posts' rest clock (Retire server h moment result) more sync given = tt
 clocked_of stage after first control posts posts' rest clock Sync more sync given = tt
 
-clocked_before : (stage : Stage) (control y : List Event) (posts posts' : List ℕ) (log : List Event)
-    → IsPrefix posts posts'
-    → AtEach (IsMuxGivenBy stage control posts) log
-    → AtEach (λ rest e. IsMuxClocked stage (y ++ control) posts' rest e.clock.0 e.what) log
-clocked_before stage control y posts posts' [] more given = tt
-clocked_before stage control y posts posts' (e ∷ log) more given = (
-  clocked_of stage (sync_clock (until e.clock.0 control)) (newest_before (until e.clock.0 control)) (y ++ control) posts
-      posts'
-      log e.clock.0 e.what more
-      (sync_append y control (sync_clock (until e.clock.0 control)) (sync_until control e.clock.0)) given.0,
-  clocked_before stage control y posts posts' log more given.1,
-)
-
 clocked_now : (stage : Stage) (after first : ℕ) (control : List Event) (posts posts' : List ℕ) (new old : List Event)
     → IsPrefix posts posts' → IsSyncIn control after
     → AtEach (λ rest e. IsMuxGiven stage after first posts (rest ++ old) e.clock.0 e.what) new
@@ -99,25 +75,6 @@ clocked_now stage after first control posts posts' (e ∷ new) old more sync giv
 
 -- WHAT WAS DONE BEFORE
 
-loss_of : (R : Routes) (F : Rules) (stage : Stage) (m : ℕ) (notes : List Note) → IsCarrier R F stage m notes
-    → (n : Note)
-    → IsAmong notes n → 0 < n.event.clock.0 → (what : What) → n.event.what ≡ what → IsLossOf notes n.event.clock.0 what
-loss_of R F stage m notes c n among low (Lose k hop) is =
-    let mine : loses n.event.what k hop ≡ true = rw is (and_from _ _ (eq-eqb _ _ refl) (same_hop_refl hop))
-    in let clock = n.event.clock.0 - 1
-    in let next : n.event.clock.0 ≡ suc clock = omega arith
-    in let lost : 1 ≤ many (is_lost k hop (suc clock)) notes =
-    among (is_lost k hop (suc clock)) (and_from _ _ mine (eq-eqb _ _ next))
-    in let same = c.lost k hop clock
-    in (clock, next, omega arith)
-loss_of R F stage m notes c n among low (Publish v) is = tt
-loss_of R F stage m notes c n among low (Switch x v) is = tt
-loss_of R F stage m notes c n among low (Steer k x) is = tt
-loss_of R F stage m notes c n among low (Arrive k hop server verdict) is = tt
-loss_of R F stage m notes c n among low (Close server flow closed) is = tt
-loss_of R F stage m notes c n among low (Retire server h moment result) is = tt
-loss_of R F stage m notes c n among low Sync is = tt
-
 loss_more : (x y : List Note) (clock : ℕ) (what : What) → ((f : Note → ℕ) → total f y ≤ total f x)
     → IsLossOf y clock what → IsLossOf x clock what
 loss_more x y clock (Lose k hop) more loss =
@@ -130,10 +87,6 @@ loss_more x y clock (Close server flow closed) more loss = tt
 loss_more x y clock (Retire server h moment result) more loss = tt
 loss_more x y clock Sync more loss = tt
 
-is_one : (b : Bool) → 1 ≤ cond b 1 0 → b ≡ true
-is_one true one = refl
-is_one false one = absurd (omega arith)
-
 assigned_known : (stage : Stage) (routes : List (Option MuxId)) (m from until k : ℕ)
     → ((k m : ℕ) → assigned_mux routes k ≡ Some m → is_some (segment_of stage k) ≡ true)
     → is_assigned routes m from until k ≡ true → is_some (segment_of stage k) ≡ true
@@ -143,45 +96,40 @@ assigned_known stage routes m from until k steerable is =
       go None at h = absurd (cc)
       go (Some i) at h = steerable k i at
 
-steerable_of : (stage : Stage) (routes : List (Option MuxId)) (m until : ℕ) (notes : List Note)
-    → ((k m : ℕ) → assigned_mux routes k ≡ Some m → is_some (segment_of stage k) ≡ true)
-    → ((k : ℕ) → many (λ n. steers_packet n.event.what k) notes ≡ one_if (is_assigned routes m 0 until k))
-    → (n : Note) → IsAmong notes n → (what : What) → n.event.what ≡ what → IsSteerable stage what
-steerable_of stage routes m until notes known steered n among (Steer k x) is =
-    let mine : steers_packet n.event.what k ≡ true = rw is (eq-eqb _ _ refl)
-    in let one : 1 ≤ many (λ y. steers_packet y.event.what k) notes = among (λ y. steers_packet y.event.what k) mine
-    in let assigned = steered k
-    in assigned_known stage routes m 0 until k known (is_one (is_assigned routes m 0 until k) (omega arith))
-steerable_of stage routes m until notes known steered n among (Publish v) is = tt
-steerable_of stage routes m until notes known steered n among (Switch x v) is = tt
-steerable_of stage routes m until notes known steered n among (Lose k hop) is = tt
-steerable_of stage routes m until notes known steered n among (Arrive k hop server verdict) is = tt
-steerable_of stage routes m until notes known steered n among (Close server flow closed) is = tt
-steerable_of stage routes m until notes known steered n among (Retire server h moment result) is = tt
-steerable_of stage routes m until notes known steered n among Sync is = tt
+-- the controller's log and the posts go on
+clock_later : (stage : Stage) (control y : List Event) (posts posts' : List ℕ) (rest : List Event) (clock : ℕ)
+    (what : What) → IsPrefix posts posts' → IsMuxClocked stage control posts rest clock what
+    → IsMuxClocked stage (y ++ control) posts' rest clock what
+clock_later stage control y posts posts' rest clock (Switch m v) more c =
+    (c.0, c.1, post_more posts posts' v.0 c.0 more c.2, sync_append y control c.1 c.3, c.4)
+clock_later stage control y posts posts' rest clock (Steer k m) more c = c
+clock_later stage control y posts posts' rest clock (Lose k hop) more c = tt
+clock_later stage control y posts posts' rest clock (Arrive k hop server verdict) more c = tt
+clock_later stage control y posts posts' rest clock (Publish v) more c = tt
+clock_later stage control y posts posts' rest clock (Close server flow closed) more c = tt
+clock_later stage control y posts posts' rest clock (Retire server h moment result) more c = tt
+clock_later stage control y posts posts' rest clock Sync more c = tt
 
-two : (P Q S : Note → Type 0) (x : List Note) → ((n : Note) → P n → Q n → S n) → AllByRecursion P x
-    → AllByRecursion Q x → AllByRecursion S x
-two P Q S [] f ps qs = tt
-two P Q S (n ∷ x) f ps qs = (f n ps.0 qs.0, two P Q S x f ps.1 qs.1)
+clocks_later : (stage : Stage) (control y : List Event) (posts posts' : List ℕ) (log : List Event)
+    → IsPrefix posts posts' → AtEach (λ rest e. IsMuxClocked stage control posts rest e.clock.0 e.what) log
+    → AtEach (λ rest e. IsMuxClocked stage (y ++ control) posts' rest e.clock.0 e.what) log
+clocks_later stage control y posts posts' [] more each = tt
+clocks_later stage control y posts posts' (e ∷ log) more each = (
+  clock_later stage control y posts posts' log e.clock.0 e.what more each.0,
+  clocks_later stage control y posts posts' log more each.1,
+)
 
--- a worker that did whole phases leaves this, with a log of the controller that has gone on
-pub left_of : (R : Routes) (F : Rules) (stage : Stage) (routes : List (Option MuxId)) (control y : List Event)
-    (posts posts' : List ℕ) (m until : ℕ) (notes : List Note)
-    → ((k m : ℕ) → assigned_mux routes k ≡ Some m → is_some (segment_of stage k) ≡ true)
-    → ((k : ℕ) → many (λ n. steers_packet n.event.what k) notes ≡ one_if (is_assigned routes m 0 until k))
-    → IsPrefix posts posts' → IsCarriage R F stage control posts m notes
+pub left_later : (F : Rules) (stage : Stage) (control y : List Event) (posts posts' : List ℕ) (m : ℕ)
+    (notes : List Note) → IsPrefix posts posts' → IsLeft F stage control posts m notes
     → IsLeft F stage (y ++ control) posts' m notes
-left_of R F stage routes control y posts posts' m until notes known steered more c = record {
-  kinds = c.carrier.kinds;
-  seats = c.seats;
-  has_sending = c.carrier.has_sending;
-  drawn = each_so (IsAnswer R F stage) (IsDrawn F) notes (λ n a. a.1) c.carrier.answers;
-  losses = two (IsAmong notes) (λ n. 0 < n.event.clock.0) (λ n. IsLossOf notes n.event.clock.0 n.event.what) notes
-      (λ n a p. loss_of R F stage m notes c.carrier n a p n.event.what refl) (all_among notes) c.positive;
-  steerable = each_so (IsAmong notes) (λ n. IsSteerable stage n.event.what) notes
-      (λ n a. steerable_of stage routes m until notes known steered n a n.event.what refl) (all_among notes);
-  gives = clocked_before stage control y posts posts' (mux_log stage m notes) more c.gives;
+left_later F stage control y posts posts' m notes more left = record {
+  kinds = left.kinds;
+  seats = left.seats;
+  has_sending = left.has_sending;
+  drawn = left.drawn;
+  losses = left.losses;
+  steerable = left.steerable;
+  gives = clocks_later stage control y posts posts' (mux_log stage m notes) more left.gives;
 }
 
 pub assigned_steerable : (stage : Stage) (routes : List (Option MuxId)) (m from until : ℕ) (what : What)

@@ -22,13 +22,16 @@ use Rattle.bm_merge.specs.Notes.{Note, events_of, plain, all_notes, total, many}
 use Rattle.bm_merge.specs.Workers.{home_of, has_log, notes_by, notes_of_all, carries, HaveHomes, HaveSeats}
 use Rattle.bm_merge.specs.Workers.{HasSending}
 use Rattle.bm_merge.specs.Workers.{IsCarrier, is_lost, is_copyless, has_come, copies_below}
-use Rattle.bm_merge.proofs.Commanding.{all_kinds}
 use Rattle.bm_merge.proofs.Keeping.{no_notes}
 use Rattle.bm_merge.proofs.Noting.{total_append, total_none, total_most, events_gathered, counts_notes, each_append}
 use Rattle.bm_merge.proofs.Noting.{each_always}
 use Rattle.bm_merge.proofs.Reaching.{one_if}
 use Rattle.bm_merge.proofs.Sharing.{shared, all_by_seat}
-use Rattle.bm_world.specs.Inside.Returned.{IsBookOfAll, has_book, IsBooked, AreHandedBack}
+use Rattle.bm_core.specs.Runs.{AtEach}
+use Rattle.bm_merge.specs.Workers.{IsUnderway}
+use Rattle.bm_world.specs.Inside.HandedBack.{AreHandedBack}
+use Rattle.bm_world.specs.Inside.Left.{AreLeft, IsSteerable}
+use Rattle.bm_world.specs.Inside.Returned.{IsBookOfAll, has_book, IsBooked}
 use Rattle.bm_world.proofs.Logs.{logs_of, AreWorkers, are_seated, own_logs, has_mux, has_book_log}
 
 -- THE WORKERS
@@ -41,13 +44,18 @@ notes_each P carriers each m = elim (cases_lt m (length carriers)) [
   | inr high ↦ subst (λ (x : List Note). AllByRecursion (P m) x) (sym (no_notes carriers m high)) tt
 ]
 
-pub are_workers : (R : Routes) (F : Rules) (stage : Stage) (controller : List Note) (carriers : List (List Note))
-    (books : List Book) → AreHandedBack R F stage controller carriers books → AreWorkers controller carriers
-are_workers R F stage controller carriers books back = record {
-  commands = all_kinds stage controller back.controls.each;
-  first = back.control.seats;
-  kinds = notes_each (λ m n. carries m n.event.what ≡ true) carriers (λ m low. (back.carried m low).carrier.kinds);
-  seats = notes_each (λ m n. n.seat ≡ suc m) carriers (λ m low. (back.carried m low).seats);
+pub kinds_of : (stage : Stage) (x : List Note) → AtEach (IsUnderway stage) x
+    → AllByRecursion (λ n. is_command n.event.what ≡ true) x
+kinds_of stage [] each = tt
+kinds_of stage (n ∷ x) each = (each.0.kind, kinds_of stage x each.1)
+
+pub left_workers : (F : Rules) (stage : Stage) (controller : List Note) (carriers : List (List Note)) (books : List Book)
+    → AreLeft F stage controller carriers books → AreWorkers controller carriers
+left_workers F stage controller carriers books left = record {
+  commands = kinds_of stage controller left.controls;
+  first = left.seats;
+  kinds = notes_each (λ m n. carries m n.event.what ≡ true) carriers (λ m low. (left.each m low).kinds);
+  seats = notes_each (λ m n. n.seat ≡ suc m) carriers (λ m low. (left.each m low).seats);
 }
 
 -- what holds of what each mux's worker did holds of all
@@ -184,48 +192,56 @@ arrives_has_sending notes n (Close server flow closed) k hop has_sending is = ab
 arrives_has_sending notes n (Retire server h moment result) k hop has_sending is = absurd (cc)
 arrives_has_sending notes n Sync k hop has_sending is = absurd (cc)
 
-is_one : (b : Bool) → 1 ≤ cond b 1 0 → b ≡ true
-is_one true one = refl
-is_one false one = absurd (omega arith)
-
--- what a worker steers is steerable
-pub steered_known : (stage : Stage) (carriers : List (List Note))
-    → ((k : ℕ) → many (λ n. steers_packet n.event.what k) (notes_of_all carriers)
-    ≡ cond (is_some (segment_of stage k)) 1 0) → (m k : ℕ)
-    → 1 ≤ many (λ n. steers_packet n.event.what k) (notes_by carriers m) → is_some (segment_of stage k) ≡ true
-steered_known stage carriers steered m k one =
-    let part = total_of_worker (λ n. one_if (steers_packet n.event.what k)) carriers m
-    in let whole = steered k
-    in is_one (is_some (segment_of stage k)) (omega arith)
-
 all_four : (A B C D S : Note → Type 0) (x : List Note) → ((n : Note) → A n → B n → C n → D n → S n)
     → AllByRecursion A x → AllByRecursion B x → AllByRecursion C x → AllByRecursion D x → AllByRecursion S x
 all_four A B C D S [] f a b c d = tt
 all_four A B C D S (n ∷ x) f a b c d = (f n a.0 b.0 c.0 d.0, all_four A B C D S x f a.1 b.1 c.1 d.1)
 
+steers_one : (stage : Stage) (what : What) (k : ℕ) → IsSteerable stage what → steers_packet what k ≡ true
+    → is_some (segment_of stage k) ≡ true
+steers_one stage (Steer j m) k steerable is =
+    let same : j ≡ k = eqb-true _ _ is in subst (λ (i : ℕ). is_some (segment_of stage i) ≡ true) same steerable
+steers_one stage (Publish v) k steerable is = absurd (cc)
+steers_one stage (Switch m v) k steerable is = absurd (cc)
+steers_one stage (Lose j hop) k steerable is = absurd (cc)
+steers_one stage (Arrive j hop server verdict) k steerable is = absurd (cc)
+steers_one stage (Close server flow closed) k steerable is = absurd (cc)
+steers_one stage (Retire server h moment result) k steerable is = absurd (cc)
+steers_one stage Sync k steerable is = absurd (cc)
+
+pub steered_known : (stage : Stage) (x : List Note) (k : ℕ) → AllByRecursion (λ n. IsSteerable stage n.event.what) x
+    → 1 ≤ many (λ n. steers_packet n.event.what k) x → is_some (segment_of stage k) ≡ true
+steered_known stage [] k all one = absurd (omega arith)
+steered_known stage (n ∷ x) k all one =
+    go (steers_packet n.event.what k) refl one (λ h. steered_known stage x k all.1 h) where
+      go : (b : Bool) → steers_packet n.event.what k ≡ b → 1 ≤ one_if b + many (λ y. steers_packet y.event.what k) x
+          → (1 ≤ many (λ y. steers_packet y.event.what k) x → is_some (segment_of stage k) ≡ true)
+          → is_some (segment_of stage k) ≡ true
+      go true is h old = steers_one stage n.event.what k all.0 is
+      go false is h old = old (omega arith)
+
 -- each note has its log
-pub have_homes : (R : Routes) (F : Rules) (stage : Stage) (controller : List Note) (carriers : List (List Note))
-    (books : List Book) (back : AreHandedBack R F stage controller carriers books)
-    → HaveHomes stage (logs_of stage controller carriers books back.kept) (notes_of_all (controller ∷ carriers))
-have_homes R F stage controller carriers books back =
-    let logs = logs_of stage controller carriers books back.kept
+pub left_homes : (F : Rules) (stage : Stage) (controller : List Note) (carriers : List (List Note)) (books : List Book)
+    (left : AreLeft F stage controller carriers books)
+    → HaveHomes stage (logs_of stage controller carriers books left.kept) (notes_of_all (controller ∷ carriers))
+left_homes F stage controller carriers books left =
+    let logs = logs_of stage controller carriers books left.kept
     in let P : Note → Type 0 = λ n. has_log (plain logs) (home_of stage n.seat n.event.what) ≡ true
-    in let are = are_workers R F stage controller carriers books back
+    in let are = left_workers F stage controller carriers books left
     in let Q : Note → Type 0 = λ n. IsBooked stage books n.event.what
     in each_append P controller (notes_of_all carriers)
     (all_together (λ n. is_command n.event.what ≡ true) Q P controller
-    (λ n is booked. command_home stage controller carriers books back.kept n.seat n.event.what is booked)
-    are.commands (all_first Q controller (notes_of_all carriers) back.booked))
+    (λ n is booked. command_home stage controller carriers books left.kept n.seat n.event.what is booked)
+    are.commands (all_first Q controller (notes_of_all carriers) left.booked))
     (all_carried P carriers (λ m low.
-    all_four (λ n. carries m n.event.what ≡ true) (λ n. n.seat ≡ suc m) Q
+    let one = left.each m low
+    in all_four (λ n. carries m n.event.what ≡ true) (λ n. n.seat ≡ suc m) Q
     (λ n. HasSending (notes_by carriers m) n n.event.what) P (notes_by carriers m)
     (λ n is at booked has_sending.
-    carried_home stage controller carriers books back.kept m n.seat n.event.what low is at booked
-    (steered_known stage carriers back.steered m)
+    carried_home stage controller carriers books left.kept m n.seat n.event.what low is at booked
+    (λ k h. steered_known stage (notes_by carriers m) k one.steerable h)
     (λ k hop h. arrives_has_sending (notes_by carriers m) n n.event.what k hop has_sending h))
-    (are.kinds m) (are.seats m)
-    (all_of_worker Q carriers m (all_rest Q controller (notes_of_all carriers) back.booked))
-    (back.carried m low).carrier.has_sending))
+    one.kinds one.seats (all_of_worker Q carriers m (all_rest Q controller (notes_of_all carriers) left.booked)) one.has_sending))
 
 below_all : (w n : ℕ) (x : List Note) → w < n → AllByRecursion (λ y. y.seat ≡ w) x → AllByRecursion (λ y. y.seat < n) x
 below_all w n x low all = each_more (λ y. y.seat ≡ w) (λ y. y.seat < n) x (λ y h. omega arith) all
@@ -248,17 +264,17 @@ have_seats stage controller carriers books all are =
     (controller ∷ carriers) (are_seated stage controller carriers books all are) (seats_below controller carriers are)
 
 -- all that the workers did is all that the logs have
-pub all_shared : (R : Routes) (F : Rules) (stage : Stage) (controller : List Note) (carriers : List (List Note))
-    (books : List Book) (back : AreHandedBack R F stage controller carriers books) (f : Note → ℕ)
-    → total f (all_notes (logs_of stage controller carriers books back.kept))
+pub left_shared : (F : Rules) (stage : Stage) (controller : List Note) (carriers : List (List Note)) (books : List Book)
+    (left : AreLeft F stage controller carriers books) (f : Note → ℕ)
+    → total f (all_notes (logs_of stage controller carriers books left.kept))
     ≡ total f (controller ++ notes_of_all carriers)
-all_shared R F stage controller carriers books back f =
-    let are = are_workers R F stage controller carriers books back
-    in shared stage (logs_of stage controller carriers books back.kept) (controller ∷ carriers)
-    (own_logs stage controller carriers books back.kept back.own)
-    (are_seated stage controller carriers books back.kept are)
-    (have_seats stage controller carriers books back.kept are)
-    (have_homes R F stage controller carriers books back) f
+left_shared F stage controller carriers books left f =
+    let are = left_workers F stage controller carriers books left
+    in shared stage (logs_of stage controller carriers books left.kept) (controller ∷ carriers)
+    (own_logs stage controller carriers books left.kept left.own)
+    (are_seated stage controller carriers books left.kept are)
+    (have_seats stage controller carriers books left.kept are)
+    (left_homes F stage controller carriers books left) f
 
 -- no packet has two Steers
 no_steer : (what : What) (k : ℕ) → is_command what ≡ true → steers_packet what k ≡ false
@@ -278,17 +294,17 @@ at_most_one false = omega arith
 pub steered_once : (R : Routes) (F : Rules) (stage : Stage) (controller : List Note) (carriers : List (List Note))
     (books : List Book) (back : AreHandedBack R F stage controller carriers books) (k : ℕ)
     → count_of (λ e. steers_packet e.what k)
-    (gathered (plain (logs_of stage controller carriers books back.kept))) ≤ 1
+    (gathered (plain (logs_of stage controller carriers books back.left.kept))) ≤ 1
 steered_once R F stage controller carriers books back k =
-    let logs = logs_of stage controller carriers books back.kept
+    let logs = logs_of stage controller carriers books back.left.kept
     in let f : Note → ℕ = λ n. one_if (steers_packet n.event.what k)
     in let same = counts_notes (λ what. steers_packet what k) (all_notes logs)
-    in let sum = all_shared R F stage controller carriers books back f
+    in let sum = left_shared F stage controller carriers books back.left f
     in let parts = total_append f controller (notes_of_all carriers)
     in let none : total f controller ≡ 0 = total_none f controller
     (each_more (λ n. is_command n.event.what ≡ true) (λ n. f n ≡ 0) controller
     (λ n is. let not = no_steer n.event.what k is in rw not refl)
-    (are_workers R F stage controller carriers books back).commands)
+    (left_workers F stage controller carriers books back.left).commands)
     in let whole = back.steered k
     in let most = at_most_one (is_some (segment_of stage k))
     in let few : many (λ n. steers_packet n.event.what k) (all_notes logs) ≤ 1 = omega arith
@@ -309,11 +325,11 @@ some_of_many g (n ∷ x) one = go (g n.event) one (some_of_many g x) where
 pub note_logged : (R : Routes) (F : Rules) (stage : Stage) (controller : List Note) (carriers : List (List Note))
     (books : List Book) (back : AreHandedBack R F stage controller carriers books) (m : ℕ) (g : Event → Bool)
     → 1 ≤ many (λ n. g n.event) (notes_by carriers m)
-    → some_event g (gathered (plain (logs_of stage controller carriers books back.kept))) ≡ true
+    → some_event g (gathered (plain (logs_of stage controller carriers books back.left.kept))) ≡ true
 note_logged R F stage controller carriers books back m g one =
-    let logs = logs_of stage controller carriers books back.kept
+    let logs = logs_of stage controller carriers books back.left.kept
     in let f : Note → ℕ = λ n. one_if (g n.event)
-    in let sum = all_shared R F stage controller carriers books back f
+    in let sum = left_shared F stage controller carriers books back.left f
     in let parts = total_append f controller (notes_of_all carriers)
     in let part = total_of_worker f carriers m
     in subst (λ (l : List Event). some_event g l ≡ true) (events_gathered logs)
@@ -350,7 +366,7 @@ sent_one : (R : Routes) (F : Rules) (stage : Stage) (controller : List Note) (ca
     (books : List Book) (back : AreHandedBack R F stage controller carriers books) (m : ℕ)
     → IsCarrier R F stage m (notes_by carriers m) → (n : Note) → IsAmong (notes_by carriers m) n
     → 0 < n.event.clock.0 → (what : What) → n.event.what ≡ what
-    → IsSentBefore (plain (logs_of stage controller carriers books back.kept)) n.event.clock.0 what
+    → IsSentBefore (plain (logs_of stage controller carriers books back.left.kept)) n.event.clock.0 what
 sent_one R F stage controller carriers books back m c n among low (Arrive k hop server verdict) is =
     let mine : arrives n.event.what k hop ≡ true = rw is (and_from _ _ (eq-eqb _ _ refl) (same_hop_refl hop))
     in let come : 1 ≤ many (has_come k hop n.event.clock.0) (notes_by carriers m) =
@@ -381,11 +397,11 @@ sent_one R F stage controller carriers books back m c n among low Sync is = tt
 
 pub all_sent : (R : Routes) (F : Rules) (stage : Stage) (controller : List Note) (carriers : List (List Note))
     (books : List Book) (back : AreHandedBack R F stage controller carriers books) (m : ℕ) → m < length carriers
-    → AllByRecursion (λ n. IsSentBefore (plain (logs_of stage controller carriers books back.kept)) n.event.clock.0
+    → AllByRecursion (λ n. IsSentBefore (plain (logs_of stage controller carriers books back.left.kept)) n.event.clock.0
     n.event.what) (notes_by carriers m)
 all_sent R F stage controller carriers books back m low =
     all_together (IsAmong (notes_by carriers m)) (λ n. 0 < n.event.clock.0)
-    (λ n. IsSentBefore (plain (logs_of stage controller carriers books back.kept)) n.event.clock.0 n.event.what)
+    (λ n. IsSentBefore (plain (logs_of stage controller carriers books back.left.kept)) n.event.clock.0 n.event.what)
     (notes_by carriers m)
     (λ n among positive. sent_one R F stage controller carriers books back m (back.carried m low).carrier n among
     positive n.event.what refl) (all_among (notes_by carriers m)) (back.carried m low).positive

@@ -3,7 +3,7 @@ use Rattle.std.proofs.Common.{◌≡◌, ℕ, zero, suc, ◌+◌, ◌<◌, ◌�
 use Rattle.std.proofs.Common.{◌++◌, length}
 use Rattle.std.proofs.Common.{Option, Some, None, refl, sym, ap, ◌∙◌, subst, arith, leb, ltb, inl, inr}
 use Rattle.std.proofs.Common.{append_assoc, length-append}
-use Rattle.std.specs.Prelude.{reverse, IfSome}
+use Rattle.std.specs.Prelude.{reverse, is_some, IfSome}
 use Rattle.std.specs.List.{AllByRecursion}
 use Rattle.std.proofs.lemmas.Bool.{cases_lt}
 use Rattle.logbook.specs.Pages.{Book}
@@ -19,18 +19,19 @@ use Rattle.bm_core.specs.Runs.{Actor, AtEach}
 use Rattle.std.proofs.Common.{append-nil as append_nil}
 use Rattle.bm_core.specs.Runs.Actor.{Controller, ShardOf}
 use Rattle.bm_core.specs.Threads.{sync_clock, newest_before, packet_of, phase_of, is_command}
-use Rattle.bm_merge.specs.Notes.{Note, events_of, total}
-use Rattle.bm_merge.specs.Workers.{home_part, is_home, notes_by, notes_of_all, IsCarrier}
+use Rattle.bm_merge.specs.Notes.{Note, events_of, many, total}
+use Rattle.bm_merge.specs.Workers.{carries, home_part, is_home, notes_by, notes_of_all, HasSending, IsCarrier, IsDrawn}
 use Rattle.bm_merge.proofs.Noting.{total_append, each_append, each_so, events_append, greatest_append}
 use Rattle.bm_merge.proofs.Phasing.{IsPhased, phased_more, phased_publish}
 use Rattle.bm_merge.proofs.Reaching.{one_if}
 use Rattle.bm_server.specs.Seats.{Seated}
 use Rattle.bm_server.specs.Servings.{Serving}
 use Rattle.bm_worker.specs.WorkerNotes.{clock_of, noted, HasSeats, GetReplies, IsSameCaller}
-use Rattle.bm_worker.specs.Phases.{mux_log, AreCopies, IsPlaced, IsPhaseNote, IsMuxGiven, Phase, task_of}
-use Rattle.bm_worker.specs.Phases.{HasGrown, is_steer}
+use Rattle.bm_worker.specs.Phases.{mux_log, mux_for, AreCopies, AreFew, IsAssigned, IsLossOf, IsPlaced, IsPhaseNote}
+use Rattle.bm_worker.specs.Phases.{HasGrown, IsMuxGiven, Kept, Phase, Task, is_steer, task_of}
 use Rattle.bm_worker.specs.Callers.{CallerState}
 use Rattle.bm_worker.specs.declared.span.Span.{Span}
+use Rattle.bm_mux.specs.Muxes.{MuxState}
 use Rattle.bm_publish.specs.Posts.{Posted, last_version}
 use Rattle.bm_server.specs.Seats.{row}
 use Rattle.std.proofs.Common.{map}
@@ -38,7 +39,11 @@ use Rattle.std.proofs.lemmas.Bool.{le-leb, lt-leb, lt-ltb, le-ltb}
 use Rattle.bm_worker.specs.Assigned.{is_mux, is_assigned, assigned_mux, RoutedBy}
 use Rattle.bm_worker.specs.declared.worker.MuxWorker.{MuxWorker}
 use Rattle.bm_world.specs.Inside.Returned.{control_log}
-use Rattle.bm_world.specs.Inside.Running.{HaveReplies, IsAtWork, add_notes}
+use Rattle.bm_world.specs.Inside.Going.{HaveReplies, IsGoing}
+use Rattle.bm_world.specs.Inside.Left.{IsSteerable, IsSyncIn}
+use Rattle.bm_world.specs.Inside.Running.{IsAtWork, add_notes}
+use Rattle.bm_world.proofs.Amounts.{steered_part}
+use Rattle.bm_world.proofs.GivingUp.{assigned_steerable, left_later, left_more, sync_some}
 use Rattle.bm_world.proofs.Homes.{home_append, home_each}
 use Rattle.bm_world.proofs.Growing.{carriage_later, carriage_more, carrier_routed, log_append}
 
@@ -192,11 +197,11 @@ assigned_sum routes m before until k low =
       go : (x y : Bool) → one_if ((true && x) && y) + one_if ((true && false) && y) ≡ one_if ((true && x) && y)
       go x y = omega arith
 
-pub sits_still : (servers : List Serving) (a b : CallerState) → IsSameCaller a b → HasSeats servers a → HasSeats servers b
+sits_still : (servers : List Serving) (a b : CallerState) → IsSameCaller a b → HasSeats servers a → HasSeats servers b
 sits_still servers a b same has_seats =
     same.who_is ∙ has_seats ∙ ap (λ (n : ℕ). map (λ server. row server n) servers) (sym same.number)
 
-pub given_same : (stage : Stage) (x : List Note) (posts : List ℕ) (a a' f f' m m' : ℕ) (old old' : List Event) → a ≡ a'
+given_same : (stage : Stage) (x : List Note) (posts : List ℕ) (a a' f f' m m' : ℕ) (old old' : List Event) → a ≡ a'
     → f ≡ f'
     → m ≡ m' → old ≡ old'
     → AtEach (λ rest e. IsMuxGiven stage a f posts (rest ++ old) e.clock.0 e.what) (mux_log stage m x)
@@ -213,6 +218,104 @@ given_same stage x posts a a' f f' m m' old old' ea ef em eo given =
     ea
     given)))
 
+-- A PART OF A PHASE
+
+assigned_at : (task : Task) (what : What) (k : ℕ) (i : MuxId) → what ≡ Steer k i → IsAssigned task what
+    → is_assigned task.routes (mux_for task).0 task.from task.until k ≡ true
+assigned_at task what k i is assigned = subst (λ (w : What). IsAssigned task w) is assigned
+
+kept_steered : (F : Rules) (stage : Stage) (servers : List Serving) (routes : List (Option MuxId))
+    (control : List Event) (board : Book) (phases m : ℕ) (span : Span) (posted : Posted) (old now : MuxWorker)
+    (x notes : List Note) → span.from ≤ span.until
+    → Kept F stage servers (task_of routes span posted old) now x
+    → IsGoing F stage servers routes control board phases span.from m old.mux old.caller notes
+    → (k : ℕ) → many (λ n. steers_packet n.event.what k) (x ++ notes) ≤ one_if (is_assigned routes m 0 span.until k)
+kept_steered F stage servers routes control board phases m span posted old now x notes order kept at k =
+    let task = task_of routes span posted old
+    in let D : Note → Type 0 = IsPhaseNote F stage servers task x
+    in let a = total_append (λ n. one_if (steers_packet n.event.what k)) x notes
+    in let b = at.steered k
+    in let c = assigned_sum routes m span.from span.until k order
+    in let d = steered_part stage routes span.after.0 (last_version posted) old.mux.id.0 span.from span.until
+    now.mux.seen.clocks x (reverse old.mux.log)
+    (each_so D (λ n. carries old.mux.id.0 n.event.what ≡ true) x (λ n e. e.kind) kept.each)
+    (each_so D (λ n. (j : ℕ) (i : MuxId) → n.event.what ≡ Steer j i
+    → is_assigned routes old.mux.id.0 span.from span.until j ≡ true) x
+    (λ n e j i is. assigned_at task n.event.what j i is e.assigned) kept.each) kept.gives k
+    in let same : is_assigned routes old.mux.id.0 span.from span.until k ≡ is_assigned routes m span.from span.until k =
+    ap (λ (i : ℕ). is_assigned routes i span.from span.until k) at.id
+    in let e = ap (λ (t : Bool). one_if t) same
+    in omega arith
+
+-- with what the worker did of a phase, whether it came to its end or gave up
+pub going_more : (F : Rules) (stage : Stage) (servers : List Serving) (routes : List (Option MuxId))
+    (control y : List Event) (board : Book) (phases m : ℕ) (span : Span) (posted : Posted) (old now : MuxWorker)
+    (x notes : List Note)
+    → ((k m : ℕ) → assigned_mux routes k ≡ Some m → is_some (segment_of stage k) ≡ true)
+    → span.from ≤ span.until → IsSyncIn (y ++ control) span.after.0
+    → Kept F stage servers (task_of routes span posted old) now x → AreFew x
+    → IsGoing F stage servers routes control board phases span.from m old.mux old.caller notes
+    → IsGoing F stage servers routes (y ++ control) board (phases + 1) span.until m now.mux now.caller (x ++ notes)
+going_more F stage servers routes control y board phases m span posted old now x notes known order sync kept few at =
+    let task = task_of routes span posted old
+    in let D : Note → Type 0 = IsPhaseNote F stage servers task x
+    in let id : old.mux.id.0 ≡ m = at.id
+    in let seen = now.mux.seen.clocks
+    in record {
+      left = left_more F stage (y ++ control) span.after.0 (last_version posted) seen seen m x notes
+          ([], append_nil seen) sync
+          (each_so D (λ n. carries m n.event.what ≡ true) x
+          (λ n d. subst (λ (i : ℕ). carries i n.event.what ≡ true) id d.kind) kept.each)
+          (each_so D (λ n. n.seat ≡ suc m) x (λ n d. let s = d.seat in omega arith) kept.each)
+          (each_so D (λ n. HasSending x n n.event.what) x (λ n d. d.has_sending) kept.each)
+          (each_so D (IsDrawn F) x (λ n d. d.drawn) kept.each)
+          (each_so D (λ n. IsLossOf x n.event.clock.0 n.event.what) x (λ n d. d.lost) kept.each)
+          (each_so D (λ n. IsSteerable stage n.event.what) x
+          (λ n d. assigned_steerable stage routes old.mux.id.0 span.from span.until n.event.what known
+          (λ k i is. assigned_at task n.event.what k i is d.assigned)) kept.each)
+          (given_same stage x seen span.after.0 span.after.0 (last_version posted) (last_version posted) old.mux.id.0 m
+          (reverse old.mux.log) (mux_log stage m notes) refl refl id at.logged kept.gives)
+          (left_later F stage control y old.mux.seen.clocks seen m notes kept.mux.later.posts at.left);
+      id = ap (λ (i : MuxId). i.0) kept.mux.id ∙ id;
+      logged = kept.logged ∙ ap (λ (k : ℕ). mux_log stage k x ++ reverse old.mux.log) id
+          ∙ ap (λ (l : List Event). mux_log stage m x ++ l) at.logged ∙ sym (log_append stage m x notes);
+      replies = have_more stage servers old.caller.seats now.caller.seats x notes kept.replies at.replies;
+      copies = subst (λ (i : MuxId). AreCopies stage i servers (reverse now.mux.log) now.caller.seats) (sym kept.mux.id)
+          (kept.copies at.copies);
+      placed = each_append (λ n. IsPlaced servers n.event.what) x notes
+          (each_so D (λ n. IsPlaced servers n.event.what) x (λ n d. d.placed) kept.each) at.placed;
+      number = kept.caller.number ∙ at.number;
+      has_seats = sits_still servers old.caller now.caller kept.caller at.has_seats;
+      board_is = kept.mux.later.board ∙ at.board_is;
+      steered = kept_steered F stage servers routes control board phases m span posted old now x notes order kept at;
+      few =
+          let a = at.few
+          in let c = length-append x notes
+          in let d = total_append (λ n. one_if (is_steer n.event.what)) x notes
+          in omega arith;
+    }
+
+-- while the controller goes on
+pub going_later : (F : Rules) (stage : Stage) (servers : List Serving) (routes : List (Option MuxId))
+    (control y : List Event) (board : Book) (phases until m : ℕ) (mux : MuxState) (caller : CallerState)
+    (notes : List Note) → IsGoing F stage servers routes control board phases until m mux caller notes
+    → IsGoing F stage servers routes (y ++ control) board phases until m mux caller notes
+going_later F stage servers routes control y board phases until m mux caller notes at = record {
+  left = left_later F stage control y mux.seen.clocks mux.seen.clocks m notes ([], append_nil mux.seen.clocks) at.left;
+  id = at.id;
+  logged = at.logged;
+  replies = at.replies;
+  copies = at.copies;
+  placed = at.placed;
+  number = at.number;
+  has_seats = at.has_seats;
+  board_is = at.board_is;
+  steered = at.steered;
+  few = at.few;
+}
+
+-- A WHOLE PHASE
+
 -- what a mux's worker did in a phase
 pub record HasDone (F : Rules) (stage : Stage) (servers : List Serving) (routes : List (Option MuxId)) (span : Span)
     (snapshot : Posted) (old now : MuxWorker) (x : List Note) : Type 0 where
@@ -224,6 +327,7 @@ pub at_work_more : (R : Routes) (F : Rules) (stage : Stage) (servers : List Serv
     (control y : List Event) (board : Book) (p phases m : ℕ) (span : Span) (snapshot : Posted) (old now : MuxWorker)
     (notes x : List Note)
     → ((k m : ℕ) (s : Segment) → assigned_mux routes k ≡ Some m → segment_of stage k ≡ Some s → R k s.flow m)
+    → ((k m : ℕ) → assigned_mux routes k ≡ Some m → is_some (segment_of stage k) ≡ true)
     → ((k : ℕ) → span.from < k → k ≤ span.until → phase_of stage k ≡ p)
     → span.from ≤ span.until → sync_clock (y ++ control) ≡ span.after.0
     → newest_before (y ++ control) ≡ last_version snapshot → counts (y ++ control) is_sync ≡ p
@@ -231,16 +335,14 @@ pub at_work_more : (R : Routes) (F : Rules) (stage : Stage) (servers : List Serv
     → HasDone F stage servers routes span snapshot old now x
     → IsAtWork R F stage servers routes control board phases span.from m old notes
     → IsAtWork R F stage servers routes (y ++ control) board (phases + 1) span.until m now (x ++ notes)
-at_work_more R F stage servers routes control y board p phases m span snapshot old now notes x route numbers order sync
+at_work_more R F stage servers routes control y board p phases m span snapshot old now notes x route known numbers order sync
     first
     syncs later below done at =
     let phase = done.phase
     in let kept = phase.kept
     in let task = task_of routes span snapshot old
-    in let id : old.mux.id.0 ≡ m = at.id
+    in let id : old.mux.id.0 ≡ m = at.going.id
     in let posts = kept.mux.later.posts
-    in let log : mux_log stage m x ++ mux_log stage m notes ≡ mux_log stage m (x ++ notes) =
-    sym (log_append stage m x notes)
     in let D : Note → Type 0 = IsPhaseNote F stage servers task x
     in let within : AllByRecursion (λ n. IfSome (packet_of n.event.what) (λ k. (span.from < k) × (k ≤ span.until))) x =
     each_so D (λ n. IfSome (packet_of n.event.what) (λ k. (span.from < k) × (k ≤ span.until))) x (λ n d. d.within)
@@ -250,8 +352,10 @@ at_work_more R F stage servers routes control y board p phases m span snapshot o
     given_same stage x now.mux.seen.clocks span.after.0 (sync_clock (y ++ control)) (last_version snapshot)
     (newest_before (y ++ control)) old.mux.id.0 m (reverse old.mux.log) (mux_log stage m notes) (sym sync) (sym first)
     id
-    at.logged kept.gives
+    at.going.logged kept.gives
     in record {
+      going = going_more F stage servers routes control y board phases m span snapshot old now x notes known order
+          (subst (λ (c : ℕ). IsSyncIn (y ++ control) c) sync (sync_some (y ++ control))) kept phase.few at.going;
       carriage = carriage_more R F stage (y ++ control) now.mux.seen.clocks m p span.from x notes syncs
           (carrier_routed R F routes stage m x route
           (subst (λ (k : ℕ). IsCarrier (RoutedBy routes) F stage k x) id phase.carrier))
@@ -269,14 +373,6 @@ at_work_more R F stage servers routes control y board p phases m span snapshot o
           kept.ordered given at.within
           (carriage_later R F stage control y old.mux.seen.clocks now.mux.seen.clocks m notes
           (all_above span.after.0 y notes later below) posts at.carriage);
-      id = ap (λ (i : MuxId). i.0) kept.mux.id ∙ id;
-      logged = kept.logged ∙ ap (λ (k : ℕ). mux_log stage k x ++ reverse old.mux.log) id
-          ∙ ap (λ (l : List Event). mux_log stage m x ++ l) at.logged ∙ log;
-      replies = have_more stage servers old.caller.seats now.caller.seats x notes kept.replies at.replies;
-      copies = subst (λ (i : MuxId). AreCopies stage i servers (reverse now.mux.log) now.caller.seats) (sym kept.mux.id)
-          (kept.copies at.copies);
-      placed = each_append (λ n. IsPlaced servers n.event.what) x notes
-          (each_so D (λ n. IsPlaced servers n.event.what) x (λ n d. d.placed) kept.each) at.placed;
       latest =
           let sum = greatest_append clock_of x notes
           in let a = kept.latest
@@ -301,18 +397,9 @@ at_work_more R F stage servers routes control y board p phases m span snapshot o
           (λ n. IfSome (packet_of n.event.what) (λ k. k ≤ span.until)) notes
           (λ n w. if_some (λ k. k ≤ span.from) (λ k. k ≤ span.until) (packet_of n.event.what) (λ k h. omega arith) w)
           at.within);
-      number = kept.caller.number ∙ at.number;
-      has_seats = sits_still servers old.caller now.caller kept.caller at.has_seats;
-      board_is = kept.mux.later.board ∙ at.board_is;
       plan = kept.mux.later.plan ∙ at.plan;
       tries = let a = done.grown.tries in let b = at.tries in omega arith;
       steps = let a = done.grown.steps in let b = at.steps in omega arith;
       room = let a = done.grown.log in let b = at.room in omega arith;
-      few =
-          let a = phase.few
-          in let b = at.few
-          in let c = length-append x notes
-          in let d = total_append (λ n. one_if (is_steer n.event.what)) x notes
-          in omega arith;
       stop = done.stop;
     }

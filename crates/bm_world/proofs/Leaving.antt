@@ -2,7 +2,7 @@
 use Rattle.std.proofs.Common.{◌≡◌, ℕ, zero, suc, ◌+◌, ◌<◌, ◌≤◌, Bool, true, false, cond, ◌&&◌, ◌||◌}
 use Rattle.std.proofs.Common.{List, [], ◌∷◌, ◌++◌, length}
 use Rattle.std.proofs.Common.{Option, Some, None, refl, sym, ap, ◌∙◌, subst, arith, eqb, inl, inr}
-use Rattle.std.specs.Prelude.{is_some, option_map, slice_get}
+use Rattle.std.specs.Prelude.{option_map, slice_get}
 use Rattle.std.specs.List.{AllByRecursion}
 use Rattle.std.proofs.lemmas.Bool.{eq-eqb, eqb-true, and_parts, or_left, or_right}
 use Rattle.std.proofs.lemmas.Option.{same_Some}
@@ -15,13 +15,13 @@ use Rattle.bm_core.specs.declared.events.Stage.{Stage}
 use Rattle.bm_core.specs.declared.events.What.{What}
 use Rattle.bm_core.specs.declared.events.What.TheVariants.{Publish, Switch, Steer, Lose, Sync}
 use Rattle.bm_core.specs.declared.events.What.TheVariants.{Arrive as Arrives, Close as Closes, Retire as Retires}
-use Rattle.bm_core.specs.Accounts.{Rules, steers_packet, is_sync}
+use Rattle.bm_core.specs.Accounts.{Rules, is_sync}
 use Rattle.bm_core.specs.Past.{segment_of, shard, sends}
 use Rattle.bm_core.specs.declared.events.Local.{Local}
 use Rattle.bm_base.specs.declared.flow.Flow.{Flow}
 use Rattle.bm_core.specs.Runs.{Actor, actor_of, is_by, next_clock, AtEach}
 use Rattle.bm_core.specs.Runs.Actor.{Controller, MuxOf, ShardOf}
-use Rattle.bm_core.specs.Threads.{is_command, last_own}
+use Rattle.bm_core.specs.Threads.{last_own}
 use Rattle.bm_shard.specs.Books.{Book, Replays, knows_after, clock_after}
 use Rattle.bm_shard.specs.Replies.{what_of}
 use Rattle.bm_shard.specs.declared.book.Shard.{Shard}
@@ -29,22 +29,21 @@ use Rattle.bm_shard.specs.declared.calls.ShardCall.{ShardCall}
 use Rattle.bm_shard.specs.declared.calls.ShardCall.TheVariants.{Arrive, Close, Retire}
 use Rattle.bm_shard.specs.declared.calls.ShardEntry.{ShardEntry}
 use Rattle.bm_merge.specs.Merges.{some_event}
-use Rattle.bm_merge.specs.Notes.{Note, events_of, plain, all_notes, total, many}
-use Rattle.bm_merge.specs.Workers.{home_of, is_home, home_part, has_log, notes_by, notes_of_all, carries, own_before}
-use Rattle.bm_merge.specs.Workers.{AreUnderway, HaveHomes, IsBefore, IsCarried, IsClocked}
-use Rattle.bm_merge.specs.Workers.{HasSending, IsUnderway, is_copyless, is_publish}
-use Rattle.bm_merge.proofs.Noting.{total_append, total_most, each_append, each_always}
+use Rattle.bm_merge.specs.Notes.{Note, events_of, all_notes, total, many}
+use Rattle.bm_merge.specs.Workers.{home_of, is_home, home_part, notes_by, notes_of_all, carries, own_before}
+use Rattle.bm_merge.specs.Workers.{AreUnderway, IsBefore, IsCarried, IsClocked}
+use Rattle.bm_merge.specs.Workers.{HasSending, is_copyless}
+use Rattle.bm_merge.proofs.Noting.{total_append, total_most, each_always}
 use Rattle.bm_merge.proofs.Reaching.{one_if}
-use Rattle.bm_merge.proofs.Sharing.{shared}
+use Rattle.bm_lead.specs.Commands.{is_publish}
 use Rattle.bm_mux.specs.Muxes.{post_clock}
 use Rattle.bm_worker.specs.Phases.{IsLossOf}
 use Rattle.bm_world.specs.Inside.Shards.{Kept, entries_of, note_of, notes_of}
-use Rattle.bm_world.specs.Inside.Returned.{control_log, posted_clocks, IsBookOfAll, IsCopied, IsBooked}
-use Rattle.bm_world.specs.Inside.Left.{IsSyncIn, IsMuxClocked, IsSteerable, IsSynced, AreLeft}
+use Rattle.bm_world.specs.Inside.Returned.{control_log, posted_clocks, IsBookOfAll, IsCopied}
+use Rattle.bm_world.specs.Inside.Left.{IsSyncIn, IsMuxClocked, IsSynced, AreLeft}
 use Rattle.bm_world.proofs.Homes.{home_is, home_each, carried_not_control}
-use Rattle.bm_world.proofs.Logs.{logs_of, book_notes, are_seated, own_logs, AreWorkers}
-use Rattle.bm_world.proofs.InLogs.{all_carried, all_of_worker, command_home, carried_home}
-use Rattle.bm_world.proofs.InLogs.{arrives_has_sending, notes_each, total_of_worker, have_seats}
+use Rattle.bm_world.proofs.Logs.{logs_of, book_notes, are_seated, own_logs}
+use Rattle.bm_world.proofs.InLogs.{left_homes, left_shared, left_workers, total_of_worker}
 use Rattle.bm_world.proofs.Entries.{at_notes, at_so, both}
 use Rattle.bm_world.proofs.Booked.{its_actor, book_actors, retire_due}
 use Rattle.bm_world.proofs.Assembled.{each_log, at_any}
@@ -52,94 +51,10 @@ use Rattle.bm_world.proofs.Sharded.{IsAskedHere, AreAskedHere, shard_clock}
 
 -- THE WORKERS
 
-pub all_kinds : (stage : Stage) (x : List Note) → AtEach (IsUnderway stage) x
-    → AllByRecursion (λ n. is_command n.event.what ≡ true) x
-all_kinds stage [] each = tt
-all_kinds stage (n ∷ x) each = (each.0.kind, all_kinds stage x each.1)
-
-left_workers : (F : Rules) (stage : Stage) (controller : List Note) (carriers : List (List Note)) (books : List Book)
-    → AreLeft F stage controller carriers books → AreWorkers controller carriers
-left_workers F stage controller carriers books left = record {
-  commands = all_kinds stage controller left.controls;
-  first = left.seats;
-  kinds = notes_each (λ m n. carries m n.event.what ≡ true) carriers (λ m low. (left.each m low).kinds);
-  seats = notes_each (λ m n. n.seat ≡ suc m) carriers (λ m low. (left.each m low).seats);
-}
-
-steers_one : (stage : Stage) (what : What) (k : ℕ) → IsSteerable stage what → steers_packet what k ≡ true
-    → is_some (segment_of stage k) ≡ true
-steers_one stage (Steer j m) k steerable is =
-    let same : j ≡ k = eqb-true _ _ is in subst (λ (i : ℕ). is_some (segment_of stage i) ≡ true) same steerable
-steers_one stage (Publish v) k steerable is = absurd (cc)
-steers_one stage (Switch m v) k steerable is = absurd (cc)
-steers_one stage (Lose j hop) k steerable is = absurd (cc)
-steers_one stage (Arrives j hop server verdict) k steerable is = absurd (cc)
-steers_one stage (Closes server flow closed) k steerable is = absurd (cc)
-steers_one stage (Retires server h moment result) k steerable is = absurd (cc)
-steers_one stage Sync k steerable is = absurd (cc)
-
-steered_known : (stage : Stage) (x : List Note) (k : ℕ) → AllByRecursion (λ n. IsSteerable stage n.event.what) x
-    → 1 ≤ many (λ n. steers_packet n.event.what k) x → is_some (segment_of stage k) ≡ true
-steered_known stage [] k all one = absurd (omega arith)
-steered_known stage (n ∷ x) k all one =
-    go (steers_packet n.event.what k) refl one (λ h. steered_known stage x k all.1 h) where
-      go : (b : Bool) → steers_packet n.event.what k ≡ b → 1 ≤ one_if b + many (λ y. steers_packet y.event.what k) x
-          → (1 ≤ many (λ y. steers_packet y.event.what k) x → is_some (segment_of stage k) ≡ true)
-          → is_some (segment_of stage k) ≡ true
-      go true is h old = steers_one stage n.event.what k all.0 is
-      go false is h old = old (omega arith)
-
-all_first : (P : Note → Type 0) (x y : List Note) → AllByRecursion P (x ++ y) → AllByRecursion P x
-all_first P [] y all = tt
-all_first P (n ∷ x) y all = (all.0, all_first P x y all.1)
-
-all_rest : (P : Note → Type 0) (x y : List Note) → AllByRecursion P (x ++ y) → AllByRecursion P y
-all_rest P [] y all = all
-all_rest P (n ∷ x) y all = all_rest P x y all.1
-
 two : (P Q S : Note → Type 0) (x : List Note) → ((n : Note) → P n → Q n → S n) → AllByRecursion P x
     → AllByRecursion Q x → AllByRecursion S x
 two P Q S [] f ps qs = tt
 two P Q S (n ∷ x) f ps qs = (f n ps.0 qs.0, two P Q S x f ps.1 qs.1)
-
-four : (A B C D S : Note → Type 0) (x : List Note) → ((n : Note) → A n → B n → C n → D n → S n)
-    → AllByRecursion A x → AllByRecursion B x → AllByRecursion C x → AllByRecursion D x → AllByRecursion S x
-four A B C D S [] f a b c d = tt
-four A B C D S (n ∷ x) f a b c d = (f n a.0 b.0 c.0 d.0, four A B C D S x f a.1 b.1 c.1 d.1)
-
-left_homes : (F : Rules) (stage : Stage) (controller : List Note) (carriers : List (List Note)) (books : List Book)
-    (left : AreLeft F stage controller carriers books)
-    → HaveHomes stage (logs_of stage controller carriers books left.kept) (notes_of_all (controller ∷ carriers))
-left_homes F stage controller carriers books left =
-    let logs = logs_of stage controller carriers books left.kept
-    in let P : Note → Type 0 = λ n. has_log (plain logs) (home_of stage n.seat n.event.what) ≡ true
-    in let are = left_workers F stage controller carriers books left
-    in let Q : Note → Type 0 = λ n. IsBooked stage books n.event.what
-    in each_append P controller (notes_of_all carriers)
-    (two (λ n. is_command n.event.what ≡ true) Q P controller
-    (λ n is booked. command_home stage controller carriers books left.kept n.seat n.event.what is booked)
-    are.commands (all_first Q controller (notes_of_all carriers) left.booked))
-    (all_carried P carriers (λ m low.
-    let one = left.each m low
-    in four (λ n. carries m n.event.what ≡ true) (λ n. n.seat ≡ suc m) Q
-    (λ n. HasSending (notes_by carriers m) n n.event.what) P (notes_by carriers m)
-    (λ n is at booked has_sending.
-    carried_home stage controller carriers books left.kept m n.seat n.event.what low is at booked
-    (λ k h. steered_known stage (notes_by carriers m) k one.steerable h)
-    (λ k hop h. arrives_has_sending (notes_by carriers m) n n.event.what k hop has_sending h))
-    one.kinds one.seats (all_of_worker Q carriers m (all_rest Q controller (notes_of_all carriers) left.booked)) one.has_sending))
-
-pub left_shared : (F : Rules) (stage : Stage) (controller : List Note) (carriers : List (List Note)) (books : List Book)
-    (left : AreLeft F stage controller carriers books) (f : Note → ℕ)
-    → total f (all_notes (logs_of stage controller carriers books left.kept))
-    ≡ total f (controller ++ notes_of_all carriers)
-left_shared F stage controller carriers books left f =
-    let are = left_workers F stage controller carriers books left
-    in shared stage (logs_of stage controller carriers books left.kept) (controller ∷ carriers)
-    (own_logs stage controller carriers books left.kept left.own)
-    (are_seated stage controller carriers books left.kept are)
-    (have_seats stage controller carriers books left.kept are)
-    (left_homes F stage controller carriers books left) f
 
 -- CLOCKS THAT STAND BEFORE
 

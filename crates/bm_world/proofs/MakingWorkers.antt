@@ -1,6 +1,6 @@
 -- Workers are made one by one, and taken apart one by one.
-use Rattle.std.proofs.Common.{◌≡◌, ℕ, zero, suc, ◌+◌, ◌<◌, ◌≤◌, List, [], ◌∷◌, ◌++◌, length, map, get_or, min, All}
-use Rattle.std.proofs.Common.{Some, refl, sym, ap, ◌∙◌, subst, arith, append-nil, length-append, map-id}
+use Rattle.std.proofs.Common.{◌≡◌, ℕ, zero, suc, ◌+◌, ◌<◌, List, [], ◌∷◌, ◌++◌, length, map, get_or, min, All}
+use Rattle.std.proofs.Common.{Some, refl, sym, ap, ◌∙◌, subst, arith, length-append, map-id}
 use Rattle.std.proofs.Common.{⊎_elim, inl, inr}
 use Rattle.std.specs.Prelude.{slice_get, Vec}
 use Rattle.std.specs.List.{zip}
@@ -13,11 +13,10 @@ use mathlib.Core.List.{IsPrefix}
 use Rattle.bm_rows.specs.Rows.{items_of}
 use Rattle.bm_rows.proofs.Places.{last_cases}
 use Rattle.bm_core.specs.declared.events.Event.{Event}
-use Rattle.bm_table.specs.Planned.{Planned}
 use Rattle.bm_publish.specs.Posts.{Posted}
 use Rattle.bm_server.specs.Seats.{Seated}
 use Rattle.bm_worker.specs.declared.worker.MuxWorker.{MuxWorker}
-use Rattle.bm_world.specs.Inside.RunStates.{rows_of, HasSeenAll, IsNewWorker}
+use Rattle.bm_world.specs.Inside.RunStates.{rows_of, IsNewWorker, WereShown}
 
 -- A LOOK AND A ROW
 
@@ -131,7 +130,7 @@ pub record AreParted (posted : Posted) (log : List Event) (leader : List (List S
     (logs : List (List Event)) (rows : List (List (List Seated))) : Type 0 where
   pub logs_are : logs ≡ log ∷ map (λ (w : MuxWorker). w.mux.log) done
   pub rows_are : rows ≡ rows_of leader done
-  pub shown : (m : ℕ) (w : MuxWorker) → slice_get done m ≡ Some w → HasSeenAll posted w
+  pub shown : WereShown posted done
 
 pub none_parted : (posted : Posted) (log : List Event) (leader : List (List Seated)) (logs : List (List Event))
     (rows : List (List (List Seated))) → logs ≡ log ∷ [] → rows ≡ leader ∷ []
@@ -145,7 +144,7 @@ none_parted posted log leader logs rows a b = record {
 pub one_parted : (posted : Posted) (log : List Event) (leader : List (List Seated)) (done : List MuxWorker)
     (w : MuxWorker) (logs logs' : List (List Event)) (rows rows' : List (List (List Seated))) (own : List Event)
     (seats : List (List Seated)) → own ≡ w.mux.log → seats ≡ w.caller.seats
-    → logs' ≡ logs ++ own ∷ [] → rows' ≡ rows ++ seats ∷ [] → HasSeenAll posted w
+    → logs' ≡ logs ++ own ∷ [] → rows' ≡ rows ++ seats ∷ [] → IsPrefix w.mux.seen.clocks posted.clocks
     → AreParted posted log leader done logs rows → AreParted posted log leader (done ++ w ∷ []) logs' rows'
 one_parted posted log leader done w logs logs' rows rows' own seats own_is seats_are a b shown parted = record {
   logs_are = a ∙ ap (λ (l : List (List Event)). l ++ own ∷ []) parted.logs_are
@@ -156,31 +155,9 @@ one_parted posted log leader done w logs logs' rows rows' own seats own_is seats
       ∙ ap (λ (l : List (List (List Seated))). leader ∷ l)
       (sym (map-append (λ (y : MuxWorker). y.caller.seats) done (w ∷ [])));
   shown = λ m y here. ⊎_elim (λ old. parted.shown m y old)
-      (λ last. subst (λ (z : MuxWorker). HasSeenAll posted z) last.1 shown)
+      (λ last. subst (λ (z : MuxWorker). IsPrefix z.mux.seen.clocks posted.clocks) last.1 shown)
       (last_cases done w y m here);
 }
-
--- WHAT WAS SHOWN
-
-nothing_left : {X : Type 0} (x rest : List X) → length (x ++ rest) ≤ length x → rest ≡ []
-nothing_left [] [] low = refl
-nothing_left [] (y ∷ rest) low = absurd (omega arith)
-nothing_left (y ∷ x) rest low = nothing_left x rest (omega arith)
-
--- where all changes are posted, what a mux has seen of them is a beginning of it
-pub shown_all : (posted : Posted) (w : MuxWorker) → length posted.clocks ≡ length posted.plan.changes
-    → HasSeenAll posted w → IsPrefix w.mux.seen.clocks posted.clocks
-shown_all posted w all has =
-    let few = has.is_posted.few
-    in let plan : length has.seen.plan.changes ≡ length posted.plan.changes =
-    ap (λ (p : Planned). length p.changes) has.learned.plan
-    in let more = has.learned.posts
-    in let long : length (posted.clocks ++ more.0) ≤ length posted.clocks =
-    let e = ap (λ (l : List ℕ). length l) more.1 in omega arith
-    in let none = nothing_left posted.clocks more.0 long
-    in let same : has.seen.clocks ≡ posted.clocks =
-    sym more.1 ∙ ap (λ (l : List ℕ). posted.clocks ++ l) none ∙ append-nil posted.clocks
-    in subst (λ (l : List ℕ). IsPrefix w.mux.seen.clocks l) same has.later.posts
 
 pub all_at : {X : Type 0} (P : X → Type 0) (xs : List X) (i : ℕ) (x : X) → slice_get xs i ≡ Some x → All P xs → P x
 all_at P xs i x here all =

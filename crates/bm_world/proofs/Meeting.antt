@@ -3,7 +3,7 @@ use Rattle.std.proofs.Common.{◌≡◌, ℕ, zero, suc, ◌+◌, ◌<◌, ◌�
 use Rattle.std.proofs.Common.{◌++◌, length}
 use Rattle.std.proofs.Common.{Option, Some, None, refl, sym, ap, ◌∙◌, subst, arith}
 use Rattle.std.proofs.Common.{append-nil}
-use Rattle.std.specs.Prelude.{IfSome, slice_get}
+use Rattle.std.specs.Prelude.{IfSome, is_some, slice_get}
 use Rattle.std.specs.List.{AllByRecursion}
 use Rattle.std.proofs.lemmas.Bool.{le-leb}
 use Rattle.std.proofs.lemmas.Option.{slice_get_within}
@@ -38,7 +38,7 @@ use Rattle.bm_world.specs.Inside.Running.{IsAtWork, AreAtWork, AreApart, HaveLoo
 use Rattle.bm_world.proofs.InLogs.{all_carried}
 use Rattle.bm_world.proofs.Growing.{carriage_later}
 use Rattle.bm_world.proofs.Homes.{home_each}
-use Rattle.bm_world.proofs.Joining.{added_of, added_count, added_total, AreOfPhase, control_same, phased_led, HasDone}
+use Rattle.bm_world.proofs.Joining.{added_of, added_count, added_total, AreOfPhase, control_same, phased_led, HasDone, going_later}
 use Rattle.bm_world.proofs.Joining.{at_work_more}
 use Rattle.bm_world.proofs.Joining.{control_append, control_each}
 
@@ -69,14 +69,14 @@ pub all_at_work_more : (R : Routes) (F : Rules) (stage : Stage) (servers : List 
     (board : Book) (p phases : ℕ) (span : Span) (snapshot : Posted) (old now : List MuxWorker)
     (controller x : List Note) (carriers more : List (List Note))
     → ((k m : ℕ) (s : Segment) → assigned_mux routes k ≡ Some m → segment_of stage k ≡ Some s → R k s.flow m)
+    → ((k m : ℕ) → assigned_mux routes k ≡ Some m → is_some (segment_of stage k) ≡ true)
     → ((k : ℕ) → span.from < k → k ≤ span.until → phase_of stage k ≡ p) → span.from ≤ span.until
     → AreApart stage span.after.0 (last_version snapshot) controller carriers → AreOfPhase span.after.0 x
     → HaveDone F stage servers routes span snapshot old now more
     → AreAtWork R F stage servers routes board p phases span.from old controller carriers
     → AreAtWork R F stage servers routes board p (phases + 1) span.until now (x ++ controller) (add_notes more carriers)
-all_at_work_more R F stage servers routes board p phases span snapshot old now controller x carriers more route numbers
-    order
-    apart phase done at =
+all_at_work_more R F stage servers routes board p phases span snapshot old now controller x carriers more route known
+    numbers order apart phase done at =
     let same = control_same stage x controller phase.no_sync
     in let syncs = at.phased.syncs
     in let count = at.count
@@ -104,7 +104,7 @@ all_at_work_more R F stage servers routes board p phases span snapshot old now c
           in let a = worker_at old m (omega arith)
           in let one =
           at_work_more R F stage servers routes (control_log stage controller) (control_log stage x) board p
-          phases m span snapshot a.0 w (notes_by carriers m) (notes_by more m) route numbers order
+          phases m span snapshot a.0 w (notes_by carriers m) (notes_by more m) route known numbers order
           (ap sync_clock (sym log) ∙ sync) (ap newest_before (sym log) ∙ same.1 ∙ apart.first_is)
           (ap (λ (l : List Event). counts l is_sync) (sym log) ∙ same.2 ∙ syncs)
           (control_each (λ e. span.after.0 < e.clock.0) stage x phase.later) (apart.below m)
@@ -175,25 +175,17 @@ at_work_later : (R : Routes) (F : Rules) (stage : Stage) (servers : List Serving
     → IsAtWork R F stage servers routes control board phases until m w notes
     → IsAtWork R F stage servers routes (e ∷ control) board phases until m w notes
 at_work_later R F stage servers routes control e board phases until m w notes below at = record {
+  going = going_later F stage servers routes control (e ∷ []) board phases until m w.mux w.caller notes at.going;
   carriage = carriage_later R F stage control (e ∷ []) w.mux.seen.clocks w.mux.seen.clocks m notes
       (each_so (λ n. clock_of n < e.clock.0) (λ n. AllByRecursion (λ z. n.event.clock.0 < z.clock.0) (e ∷ [])) notes
       (λ n h. (h, tt)) below) ([], append-nil w.mux.seen.clocks) at.carriage;
-  id = at.id;
-  logged = at.logged;
-  replies = at.replies;
-  copies = at.copies;
-  placed = at.placed;
   latest = at.latest;
   steered = at.steered;
   within = at.within;
-  number = at.number;
-  has_seats = at.has_seats;
-  board_is = at.board_is;
   plan = at.plan;
   tries = at.tries;
   steps = at.steps;
   room = at.room;
-  few = at.few;
   stop = at.stop;
 }
 

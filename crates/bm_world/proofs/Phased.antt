@@ -1,5 +1,5 @@
 -- A phase that all workers have done, and the Sync after it.
-use Rattle.std.proofs.Common.{◌≡◌, ℕ, zero, suc, ◌+◌, ◌-◌, ◌<◌, ◌≤◌, max, true, false, List, []}
+use Rattle.std.proofs.Common.{◌≡◌, ℕ, suc, ◌+◌, ◌-◌, ◌<◌, ◌≤◌, max, true, false, List, []}
 use Rattle.std.proofs.Common.{◌∷◌, ◌++◌, length, map, Option, Some, None, refl, sym, ap, ◌∙◌, subst}
 use Rattle.std.proofs.Common.{arith}
 use Rattle.std.specs.Prelude.{slice_get, option_map, is_some, Result, Ok, Err, IfOk, OnOk}
@@ -41,23 +41,10 @@ use Rattle.bm_world.specs.Inside.Returned.{control_log}
 use Rattle.bm_world.specs.Inside.Running.{AreAtWork, AreApart, HaveLooked, IsAtPhase, add_notes}
 use Rattle.bm_world.proofs.Joining.{AreOfPhase, HasDone, have_more}
 use Rattle.bm_world.proofs.Meeting.{HaveDone, all_at_work_more, all_looked, sync_met}
-use Rattle.bm_world.proofs.Stopping.{too_late_to_sync}
+use Rattle.bm_world.proofs.Stopping.{choose, too_late_to_sync}
 use Rattle.bm_world.proofs.BeforePhase.{all_informed, informed_at}
 
 -- WHAT EACH DID
-
--- for each place some notes: a list of them
-gather : (P : ℕ → List Note → Type 0) (n : ℕ) → ((m : ℕ) → m < n → (d : List Note) × P m d)
-    → (more : List (List Note)) × (length more ≡ n) × ((m : ℕ) → m < n → P m (notes_by more m))
-gather P zero each = ([], refl, λ m low. absurd (omega arith))
-gather P (suc n) each =
-    let first = each 0 (omega arith)
-    in let rest = gather (λ m d. P (suc m) d) n (λ m low. each (suc m) (omega arith))
-    in (first.0 ∷ rest.0, ap suc rest.1, at first.0 rest.0 first.1 rest.2) where
-      at : (d : List Note) (more : List (List Note)) → P 0 d → ((m : ℕ) → m < n → P (suc m) (notes_by more m))
-          → (m : ℕ) → m < suc n → P m (notes_by (d ∷ more) m)
-      at d more p each zero low = p
-      at d more p each (suc m) low = each m (omega arith)
 
 -- what each mux's worker did of a phase, once it knew what is posted
 abbrev pub Worked : Rules → Stage → List Serving → List (Option MuxId) → Span → Posted → List MuxWorker
@@ -98,7 +85,7 @@ have_done F stage servers routes span posted old now long before after worked =
     in let P : ℕ → List Note → Type 0 =
     λ m d. (x y : MuxWorker) → slice_get old m ≡ Some x → slice_get now m ≡ Some y
     → HasDone F stage servers routes span posted (with_posts posted x) y d
-    in let all = gather P (length old) (λ m low.
+    in let all = choose P (length old) (λ m low.
     let a = there old m low
     in let b = there now m (omega arith)
     in let one = done_one F stage servers routes span posted a.0 b.0 (before m a.0 a.1) (after m b.0 b.1)
@@ -143,6 +130,7 @@ of_phase stage servers posted q leader b after x controller led is leads none = 
 pub phase_stands : (F : Rules) (stage : Stage) (servers : List Serving) (routes : List (Option MuxId))
     (posted q : Posted) (leader b : Leader) (old now : List MuxWorker) (span : Span)
     (between : IsBetween F stage servers routes posted leader old span.from)
+    → ((k m : ℕ) → assigned_mux routes k ≡ Some m → is_some (segment_of stage k) ≡ true)
     → span.after.0 ≡ leader.caller.latest → span.from ≤ span.until
     → ((k : ℕ) → span.from < k → k ≤ span.until → phase_of stage k ≡ between.p)
     → HasLed stage servers posted q leader b → length now ≡ length old → HaveNotStopped now
@@ -150,7 +138,8 @@ pub phase_stands : (F : Rules) (stage : Stage) (servers : List Serving) (routes 
     → (controller : List Note) × (carriers : List (List Note))
     × IsStanding F stage servers routes q b now between.p (between.p + 1) span.until controller carriers
     × HaveLooked stage controller carriers
-phase_stands F stage servers routes posted q leader b old now span between after order numbers led long none worked =
+phase_stands F stage servers routes posted q leader b old now span between known after order numbers led long none
+    worked =
     let standing = between.standing
     in let controller = between.controller
     in let carriers = between.carriers
@@ -168,7 +157,7 @@ phase_stands F stage servers routes posted q leader b old now span between after
     (subst (λ (k : ℕ). AreApart stage leader.caller.latest k controller carriers) (sym version) between.apart)
     in let phase = of_phase stage servers posted q leader b span.after.0 x controller standing.led after leads led.1.2
     in let one = all_at_work_more R F stage servers routes posted.board between.p between.p span posted informed now
-    controller x carriers done.0 (λ k m s is seg. is) numbers order apart phase done.1 at
+    controller x carriers done.0 (λ k m s is seg. is) known numbers order apart phase done.1 at
     in let size : length informed ≡ length old = length-map old (with_posts posted)
     in let muxes = standing.muxes
     in (
@@ -185,7 +174,7 @@ phase_stands F stage servers routes posted q leader b old now span between after
       },
       all_looked F stage servers routes span posted informed now controller x carriers done.0 (size ∙ muxes)
           (at.count)
-          (λ m w here. (at.each m w here).id) apart.sync phase done.1,
+          (λ m w here. (at.each m w here).going.id) apart.sync phase done.1,
     )
 
 -- THE SYNC
@@ -310,7 +299,7 @@ met_next F stage servers routes posted leader b workers until End is met =
     end_stands F stage servers routes posted leader b workers is.p (is.p + 1) until is.controller is.carriers is.standing
     is.looked (is.last met.0) met.0 met.1
 met_next F stage servers routes posted leader b workers until TooLate is met =
-    subst (λ (h : Leader). HasGivenUp F stage servers posted h workers) (sym met.0)
+    subst (λ (h : Leader). HasGivenUp F stage servers routes posted h workers) (sym met.0)
     (too_late_to_sync F stage servers routes posted leader workers is.p (is.p + 1) until is.controller is.carriers
     met.1.0 met.1.1 is.sound is.steerable is.within (omega arith) is.standing met.1.2)
 
@@ -343,8 +332,8 @@ pub phase_meets : (F : Rules) (stage : Stage) (servers : List Serving) (routes :
 phase_meets F stage servers routes posted q leader b old now span place sound servers_are steerable between after order within
     numbers
     last next led at long none worked =
-    let stands = phase_stands F stage servers routes posted q leader b old now span between after order numbers led long
-    none worked
+    let stands = phase_stands F stage servers routes posted q leader b old now span between steerable after order numbers led
+    long none worked
     in record {
       sound = sound;
       servers_are = servers_are;

@@ -81,23 +81,35 @@ new_at_work R F stage servers routes posted seats m w plan new is =
     in let none : (s h : ℕ) → calls_there w.caller.seats s h ≡ [] =
     λ s h. ap (λ (x : List (List Seated)). calls_there x s h) own ∙ new.replies s h
     in record {
+      going = record {
+        left = record {
+          kinds = tt;
+          seats = tt;
+          has_sending = tt;
+          drawn = tt;
+          losses = tt;
+          steerable = tt;
+          gives = tt;
+        };
+        id = ap (λ (x : MuxState). x.id.0) is.mux;
+        logged = ap (λ (x : List Event). reverse x) log;
+        replies = have_none stage servers w.caller.seats none;
+        copies = no_copies stage w.mux.id servers (reverse w.mux.log) w.caller.seats none;
+        placed = tt;
+        number = number;
+        has_seats = subst (λ (p : CallerState). HasSeats servers p) (sym is.caller) new.«is»;
+        board_is = ap (λ (x : Posted). x.board) seen;
+        steered = λ k. omega arith;
+        few = omega arith;
+      };
       carriage = no_carriage R F stage w.mux.seen.clocks m;
-      id = ap (λ (x : MuxState). x.id.0) is.mux;
-      logged = ap (λ (x : List Event). reverse x) log;
-      replies = have_none stage servers w.caller.seats none;
-      copies = no_copies stage w.mux.id servers (reverse w.mux.log) w.caller.seats none;
-      placed = tt;
       latest = ap (λ (x : CallerState). x.latest) is.caller;
       steered = λ k. sym (ap (λ (b : Bool). one_if b) (none_assigned routes m k));
       within = tt;
-      number = number;
-      has_seats = subst (λ (p : CallerState). HasSeats servers p) (sym is.caller) new.«is»;
-      board_is = ap (λ (x : Posted). x.board) seen;
       plan = ap (λ (x : Posted). x.plan) seen ∙ plan;
       tries = let t : w.caller.tries ≡ 0 = ap (λ (x : CallerState). x.tries) is.caller in omega arith;
       steps = let t = is.steps in omega arith;
       room = let t : length w.mux.log ≡ 0 = ap (λ (x : List Event). length x) log in omega arith;
-      few = omega arith;
       stop = is.stop;
     }
 

@@ -2,8 +2,7 @@
 use Rattle.std.proofs.Common.{◌≡◌, ℕ, zero, suc, ◌+◌, ◌*◌, ◌<◌, ◌≤◌, max, Bool, true, false, List, [], ◌∷◌, ◌++◌}
 use Rattle.std.proofs.Common.{length, length-append, Option, Some, None, refl, sym, ap, ◌∙◌, subst, arith, eqb, inl}
 use Rattle.std.proofs.Common.{inr}
-use Rattle.std.proofs.Common.{append-nil}
-use Rattle.std.specs.Prelude.{reverse, slice_get, is_some, IfErr, Result, Ok, Err, ◌-◌, ◌^◌}
+use Rattle.std.specs.Prelude.{slice_get, is_some, IfErr, Result, Ok, Err, ◌-◌, ◌^◌}
 use Rattle.std.specs.List.{AllByRecursion}
 use Rattle.std.proofs.lemmas.Bool.{eqb-true}
 use Rattle.std.proofs.lemmas.Option.{same_Some, slice_get_within}
@@ -13,23 +12,20 @@ use Rattle.bm_base.specs.declared.ids.MuxId.{MuxId}
 use Rattle.bm_base.specs.declared.ids.Moment.{Moment}
 use Rattle.bm_core.specs.declared.events.Event.{Event}
 use Rattle.bm_core.specs.declared.events.Stage.{Stage}
-use Rattle.bm_core.specs.declared.events.What.{What}
-use Rattle.bm_core.specs.declared.events.What.TheVariants.{Steer}
-use Rattle.bm_core.specs.Accounts.{Rules, is_sync, steers_packet}
+use Rattle.bm_core.specs.Accounts.{Rules, is_sync}
 use Rattle.bm_core.specs.Past.{segment_of}
 use Rattle.bm_core.specs.Stages.{IsSound}
 use Rattle.bm_core.specs.Threads.{sync_clock}
 use Rattle.bm_merge.specs.Notes.{Note, greatest, many}
-use Rattle.bm_merge.specs.Workers.{IsDrawn, HasSending, notes_of_all, carries, notes_by}
+use Rattle.bm_merge.specs.Workers.{notes_of_all, notes_by}
 use Rattle.bm_merge.proofs.Noting.{each_append, each_so, greatest_append, total_append}
 use Rattle.bm_merge.proofs.Reaching.{one_if}
-use Rattle.bm_publish.specs.Posts.{Posted, last_version}
+use Rattle.bm_publish.specs.Posts.{Posted}
 use Rattle.bm_server.specs.Servings.{Serving}
 use Rattle.bm_worker.specs.WorkerNotes.{clock_of}
-use Rattle.bm_worker.specs.Phases.{AreCopies, AreFew, HasEnded, HasWorked, IsPhaseNote, IsLossOf}
-use Rattle.bm_worker.specs.Phases.{IsPlaced as IsCarriedAt}
-use Rattle.bm_worker.specs.Phases.{IsStopOf, IsAssigned, Kept, Task, is_steer, mux_log, mux_for, task_of}
-use Rattle.bm_worker.specs.Assigned.{RoutedBy, is_assigned, assigned_mux}
+use Rattle.bm_worker.specs.Phases.{AreFew, HasEnded, HasWorked}
+use Rattle.bm_worker.specs.Phases.{IsStopOf, Kept, Task, task_of}
+use Rattle.bm_worker.specs.Assigned.{RoutedBy, assigned_mux}
 use Rattle.bm_worker.specs.declared.span.Span.{Span}
 use Rattle.bm_worker.specs.declared.stop.Stop.{Stop}
 use Rattle.bm_worker.specs.declared.stop.Stop.TheVariants.{Late, Memory}
@@ -39,15 +35,14 @@ use Rattle.bm_lead.specs.Commands.{AreDone, control_log}
 use Rattle.bm_lead.specs.Leaders.{IsStopFrom, UnlessMemory}
 use Rattle.bm_lead.specs.Leads.{HasLed, HaveNoSync, IsLed, IsPlaced, Leads}
 use Rattle.bm_world.specs.Inside.RunStates.{IsBetween, IsLate, IsStanding, IsTooLate, latest_in, with_posts}
-use Rattle.bm_world.specs.Inside.GivenUp.{HasGivenUp, HasLeft}
-use Rattle.bm_world.specs.Inside.Left.{IsSteerable, IsSyncIn, IsSynced}
+use Rattle.bm_world.specs.Inside.GivenUp.{HasGivenUp}
+use Rattle.bm_world.specs.Inside.Going.{IsGoing}
+use Rattle.bm_world.specs.Inside.Left.{IsSyncIn, IsSynced}
 use Rattle.bm_world.specs.Inside.Running.{IsAtWork, add_notes}
-use Rattle.bm_world.proofs.Amounts.{carried_few, led_few, steered_part, syncs_few}
-use Rattle.bm_world.proofs.GivingUp.{all_synced, assigned_steerable, left_more, left_of, sync_append, sync_some}
+use Rattle.bm_world.proofs.Amounts.{carried_few, led_few, syncs_few}
+use Rattle.bm_world.proofs.GivingUp.{all_synced, sync_append, sync_some}
 use Rattle.bm_world.proofs.GivingUp.{unsynced}
-use Rattle.bm_world.proofs.Growing.{log_append}
-use Rattle.bm_world.proofs.Joining.{added_count, added_of, added_total, control_append, given_same, have_more}
-use Rattle.bm_world.proofs.Joining.{sits_still, assigned_sum}
+use Rattle.bm_world.proofs.Joining.{added_count, added_of, added_total, control_append, going_more, have_more}
 use Rattle.bm_world.proofs.Meeting.{worker_under}
 
 -- WHY A WORKER GAVE UP
@@ -84,108 +79,11 @@ large_stop x (Some (Late moment clock)) stopped late =
 
 -- A MUX'S WORKER
 
--- what the worker of mux m did of a run, in at most this many phases, with packets up to a number
+-- what the worker of mux m did of a run, and that one of its clocks is large if it gave up for such a moment
 record IsPart (F : Rules) (stage : Stage) (servers : List Serving) (routes : List (Option MuxId))
     (control : List Event) (board : Board) (phases until m : ℕ) (w : MuxWorker) (notes : List Note) : Type 0 where
-  left : HasLeft F stage servers control board m w notes
-  few : length notes ≤ 41 * many (λ n. is_steer n.event.what) notes + phases
-  steered : (k : ℕ) → many (λ n. steers_packet n.event.what k) notes ≤ one_if (is_assigned routes m 0 until k)
+  going : IsGoing F stage servers routes control board phases until m w.mux w.caller notes
   large : IsTooLate w.stop → IsLarge notes
-
-at_part : (F : Rules) (stage : Stage) (servers : List Serving) (routes : List (Option MuxId)) (control : List Event)
-    (board : Board) (phases until m : ℕ) (w : MuxWorker) (notes : List Note)
-    → ((k m : ℕ) → assigned_mux routes k ≡ Some m → is_some (segment_of stage k) ≡ true)
-    → IsAtWork (RoutedBy routes) F stage servers routes control board phases until m w notes
-    → IsPart F stage servers routes control board phases until m w notes
-at_part F stage servers routes control board phases until m w notes known at = record {
-  left = record {
-    left = left_of (RoutedBy routes) F stage routes control [] w.mux.seen.clocks w.mux.seen.clocks m until notes known
-        at.steered ([], append-nil w.mux.seen.clocks) at.carriage;
-    id = at.id;
-    logged = at.logged;
-    replies = at.replies;
-    copies = at.copies;
-    placed = at.placed;
-    number = at.number;
-    has_seats = at.has_seats;
-    board_is = at.board_is;
-  };
-  few = at.few;
-  steered = λ k. (let s = at.steered k in omega arith);
-  large = λ late. absurd (subst (λ (o : Option Stop). IsTooLate o) at.stop late);
-}
-
-assigned_at : (task : Task) (what : What) (k : ℕ) (i : MuxId) → what ≡ Steer k i → IsAssigned task what
-    → is_assigned task.routes (mux_for task).0 task.from task.until k ≡ true
-assigned_at task what k i is assigned = subst (λ (w : What). IsAssigned task w) is assigned
-
-kept_left : (F : Rules) (stage : Stage) (servers : List Serving) (routes : List (Option MuxId))
-    (control y : List Event) (board : Board) (phases m : ℕ) (span : Span) (posted : Posted) (old now : MuxWorker)
-    (x notes : List Note)
-    → ((k m : ℕ) → assigned_mux routes k ≡ Some m → is_some (segment_of stage k) ≡ true)
-    → sync_clock control ≡ span.after.0
-    → Kept F stage servers (task_of routes span posted (with_posts posted old)) now x
-    → IsAtWork (RoutedBy routes) F stage servers routes control board phases span.from m old notes
-    → HasLeft F stage servers (y ++ control) board m now (x ++ notes)
-kept_left F stage servers routes control y board phases m span posted old now x notes known sync kept at =
-    let task = task_of routes span posted (with_posts posted old)
-    in let D : Note → Type 0 = IsPhaseNote F stage servers task x
-    in let id : old.mux.id.0 ≡ m = at.id
-    in let seen = now.mux.seen.clocks
-    in let here : IsSyncIn (y ++ control) span.after.0 =
-    sync_append y control span.after.0 (subst (λ (c : ℕ). IsSyncIn control c) sync (sync_some control))
-    in record {
-      left = left_more F stage (y ++ control) span.after.0 (last_version posted) seen seen m x notes
-          ([], append-nil seen) here
-          (each_so D (λ n. carries m n.event.what ≡ true) x
-          (λ n d. subst (λ (i : ℕ). carries i n.event.what ≡ true) id d.kind) kept.each)
-          (each_so D (λ n. n.seat ≡ suc m) x (λ n d. let s = d.seat in omega arith) kept.each)
-          (each_so D (λ n. HasSending x n n.event.what) x (λ n d. d.has_sending) kept.each)
-          (each_so D (IsDrawn F) x (λ n d. d.drawn) kept.each)
-          (each_so D (λ n. IsLossOf x n.event.clock.0 n.event.what) x (λ n d. d.lost) kept.each)
-          (each_so D (λ n. IsSteerable stage n.event.what) x
-          (λ n d. assigned_steerable stage routes old.mux.id.0 span.from span.until n.event.what known
-          (λ k i is. assigned_at task n.event.what k i is d.assigned)) kept.each)
-          (given_same stage x seen span.after.0 span.after.0 (last_version posted) (last_version posted) old.mux.id.0 m
-          (reverse old.mux.log) (mux_log stage m notes) refl refl id at.logged kept.gives)
-          (left_of (RoutedBy routes) F stage routes control y old.mux.seen.clocks seen m span.from notes known
-          at.steered kept.mux.later.posts at.carriage);
-      id = ap (λ (i : MuxId). i.0) kept.mux.id ∙ id;
-      logged = kept.logged ∙ ap (λ (k : ℕ). mux_log stage k x ++ reverse old.mux.log) id
-          ∙ ap (λ (l : List Event). mux_log stage m x ++ l) at.logged ∙ sym (log_append stage m x notes);
-      replies = have_more stage servers old.caller.seats now.caller.seats x notes kept.replies at.replies;
-      copies = subst (λ (i : MuxId). AreCopies stage i servers (reverse now.mux.log) now.caller.seats) (sym kept.mux.id)
-          (kept.copies at.copies);
-      placed = each_append (λ n. IsCarriedAt servers n.event.what) x notes
-          (each_so D (λ n. IsCarriedAt servers n.event.what) x (λ n d. d.placed) kept.each) at.placed;
-      number = kept.caller.number ∙ at.number;
-      has_seats = sits_still servers old.caller now.caller kept.caller at.has_seats;
-      board_is = kept.mux.later.board ∙ at.board_is;
-    }
-
-kept_steered : (F : Rules) (stage : Stage) (servers : List Serving) (routes : List (Option MuxId))
-    (control : List Event) (board : Board) (phases m : ℕ) (span : Span) (posted : Posted) (old now : MuxWorker)
-    (x notes : List Note) → span.from ≤ span.until
-    → Kept F stage servers (task_of routes span posted (with_posts posted old)) now x
-    → IsAtWork (RoutedBy routes) F stage servers routes control board phases span.from m old notes
-    → (k : ℕ) → many (λ n. steers_packet n.event.what k) (x ++ notes) ≤ one_if (is_assigned routes m 0 span.until k)
-kept_steered F stage servers routes control board phases m span posted old now x notes order kept at k =
-    let task = task_of routes span posted (with_posts posted old)
-    in let D : Note → Type 0 = IsPhaseNote F stage servers task x
-    in let id : old.mux.id.0 ≡ m = at.id
-    in let a = total_append (λ n. one_if (steers_packet n.event.what k)) x notes
-    in let b = at.steered k
-    in let c = assigned_sum routes m span.from span.until k order
-    in let d = steered_part stage routes span.after.0 (last_version posted) old.mux.id.0 span.from span.until
-    now.mux.seen.clocks x (reverse old.mux.log)
-    (each_so D (λ n. carries old.mux.id.0 n.event.what ≡ true) x (λ n e. e.kind) kept.each)
-    (each_so D (λ n. (j : ℕ) (i : MuxId) → n.event.what ≡ Steer j i
-    → is_assigned routes old.mux.id.0 span.from span.until j ≡ true) x
-    (λ n e j i is. assigned_at task n.event.what j i is e.assigned) kept.each) kept.gives k
-    in let same : is_assigned routes old.mux.id.0 span.from span.until k ≡ is_assigned routes m span.from span.until k =
-    ap (λ (i : ℕ). is_assigned routes i span.from span.until k) id
-    in let e = ap (λ (t : Bool). one_if t) same
-    in omega arith
 
 -- with its part of a phase, whether it came to the end or not
 worked_part : (F : Rules) (stage : Stage) (servers : List Serving) (routes : List (Option MuxId))
@@ -204,14 +102,9 @@ worked_part F stage servers routes control y board phases m span posted old now 
     in (
       x,
       record {
-        left = kept_left F stage servers routes control y board phases m span posted old now x notes known sync kept at;
-        few =
-            let a = ended.2
-            in let b = at.few
-            in let c = length-append x notes
-            in let d = total_append (λ n. one_if (is_steer n.event.what)) x notes
-            in omega arith;
-        steered = kept_steered F stage servers routes control board phases m span posted old now x notes order kept at;
+        going = going_more F stage servers routes control y board phases m span posted (with_posts posted old) now x notes
+            known order (sync_append y control span.after.0
+            (subst (λ (c : ℕ). IsSyncIn control c) sync (sync_some control))) kept ended.2 at.going;
         large = λ late.
             let a = large_stop x now.stop ended.3 late
             in let b = greatest_append clock_of x notes
@@ -227,7 +120,7 @@ choose_at P n d rest p q zero low = p
 choose_at P n d rest p q (suc m) low = q m (omega arith)
 
 -- what each worker did, as one list
-choose : (P : ℕ → List Note → Type 0) (n : ℕ) → ((m : ℕ) → m < n → (x : List Note) × P m x)
+pub choose : (P : ℕ → List Note → Type 0) (n : ℕ) → ((m : ℕ) → m < n → (x : List Note) × P m x)
     → (more : List (List Note)) × (length more ≡ n) × ((m : ℕ) → m < n → P m (notes_by more m))
 choose P zero each = ([], refl, λ m low. absurd (omega arith))
 choose P (suc n) each =
@@ -251,8 +144,8 @@ parts_few F stage servers routes control board phases until next workers control
     in let a = length-append controller (notes_of_all carriers)
     in let b = led_few stage next controller sound done
     in let c = carried_few stage routes until carriers (omega arith) (omega arith)
-    (λ m here. let w = there workers m (omega arith) in let f = (each m w.0 w.1).few in omega arith)
-    (λ m here. let w = there workers m (omega arith) in (each m w.0 w.1).steered)
+    (λ m here. let w = there workers m (omega arith) in let f = (each m w.0 w.1).going.few in omega arith)
+    (λ m here. let w = there workers m (omega arith) in (each m w.0 w.1).going.steered)
     in omega arith
 
 -- TOGETHER
@@ -269,11 +162,11 @@ unless_memory (Err Memory) P not so = absurd (not refl)
 unless_memory (Err (Late moment clock)) P not so = so
 
 led_large : (led : Result (Unit {0}) Stop) (latest : ℕ) (stop : Stop) → (led ≡ Err Memory → ⊥) → led ≡ Err stop
-    → IfErr led (IsStopFrom (9 * 10 ^ 18 - 4096) latest) → 9 * 10 ^ 18 ≤ latest + 4097
+    → IfErr led (IsStopFrom (9 * 10 ^ 18) latest) → 9 * 10 ^ 18 ≤ latest
 led_large led latest Memory not is from = absurd (not is)
 led_large led latest (Late moment clock) not is from =
-    let why : IsStopFrom (9 * 10 ^ 18 - 4096) latest (Late moment clock) =
-    subst (λ (r : Result (Unit {0}) Stop). IfErr r (IsStopFrom (9 * 10 ^ 18 - 4096) latest)) is from
+    let why : IsStopFrom (9 * 10 ^ 18) latest (Late moment clock) =
+    subst (λ (r : Result (Unit {0}) Stop). IfErr r (IsStopFrom (9 * 10 ^ 18) latest)) is from
     in let a = why.1
     in let b = why.2
     in omega arith
@@ -286,11 +179,11 @@ pub gives_up : (F : Rules) (stage : Stage) (servers : List Serving) (routes : Li
     → IsBetween F stage servers routes posted leader old span.from
     → span.after.0 ≡ leader.caller.latest → span.from ≤ span.until → span.until ≤ length stage.capture.records
     → UnlessMemory led (HasLed stage servers posted q leader b)
-    → IfErr led (IsStopFrom (9 * 10 ^ 18 - 4096) b.caller.latest)
+    → IfErr led (IsStopFrom (9 * 10 ^ 18) b.caller.latest)
     → length now ≡ length old
     → ((m : ℕ) (x y : MuxWorker) → slice_get old m ≡ Some x → slice_get now m ≡ Some y
     → HasWorked F stage servers routes span (with_posts posted x) y)
-    → IsLate led now → HasGivenUp F stage servers q b now
+    → IsLate led now → HasGivenUp F stage servers routes q b now
 gives_up F stage servers routes posted q leader b old now span led sound known between after order within has from lines
     worked late =
     let standing = between.standing
@@ -341,6 +234,8 @@ gives_up F stage servers routes posted q leader b old now span led sound known b
     in let syncs = syncs_few stage leader.next before sound standing.led.done
     in let phases = at.phased.syncs
     in record {
+      phases = between.p + 1;
+      until = span.until;
       controller = d ++ before;
       carriers = add_notes more carriers;
       muxes = muxes;
@@ -349,7 +244,7 @@ gives_up F stage servers routes posted q leader b old now span led sound known b
       replies = have_more stage servers leader.caller.seats b.caller.seats d before leads.replies standing.replies;
       placed = each_append (λ n. IsPlaced stage servers n.event.what) d before leads.placed standing.placed;
       count = total_carriers;
-      each = λ m w here. (each m w here).left;
+      each = λ m w here. (each m w here).going;
       synced = each_append (λ n. IsSynced stage all n n.event.what) d before (no_sync_synced stage all d none)
           (all_synced stage at.all all before (λ f.
           let s = at.same f
@@ -391,19 +286,22 @@ pub too_late_to_sync : (F : Rules) (stage : Stage) (servers : List Serving) (rou
     → until ≤ length stage.capture.records → phases ≤ suc p
     → IsStanding F stage servers routes posted leader workers p phases until controller carriers
     → IsStopFrom (9 * 10 ^ 18) (max leader.caller.latest (latest_in workers)) (Late moment clock)
-    → HasGivenUp F stage servers posted leader workers
+    → HasGivenUp F stage servers routes posted leader workers
 too_late_to_sync F stage servers routes posted leader workers p phases until controller carriers moment clock sound known
     within few standing from =
     let at = standing.at_work
     in let each : (m : ℕ) (w : MuxWorker) → slice_get workers m ≡ Some w
     → IsPart F stage servers routes (control_log stage controller) posted.board phases until m w (notes_by carriers m) =
-    λ m w here.
-    at_part F stage servers routes (control_log stage controller) posted.board phases until m w (notes_by carriers m)
-    known (at.each m w here)
+    λ m w here. let one = at.each m w here in record {
+      going = one.going;
+      large = λ late. absurd (subst (λ (o : Option Stop). IsTooLate o) one.stop late);
+    }
     in let all = controller ++ notes_of_all carriers
     in let syncs = syncs_few stage leader.next controller sound standing.led.done
     in let count = at.phased.syncs
     in record {
+      phases = phases;
+      until = until;
       controller = controller;
       carriers = carriers;
       muxes = standing.muxes;
@@ -412,7 +310,7 @@ too_late_to_sync F stage servers routes posted leader workers p phases until con
       replies = standing.replies;
       placed = standing.placed;
       count = at.count;
-      each = λ m w here. (each m w here).left;
+      each = λ m w here. (each m w here).going;
       synced = all_synced stage at.all all controller (λ f. let s = at.same f in omega arith) at.phased.met;
       few = parts_few F stage servers routes (control_log stage controller) posted.board phases until leader.next workers
           controller carriers sound (omega arith) within at.count standing.muxes standing.ready.next standing.led.done

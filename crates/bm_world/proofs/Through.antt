@@ -143,14 +143,14 @@ merge_to_run F stage servers routes posted leader workers all logs sound servers
     in let back = ended (RoutedBy routes) F stage servers routes posted.board end.p end.phases workers leader.caller.seats
     end.controller end.carriers all fin count books
     in let promises = handed_back (RoutedBy routes) F stage end.controller end.carriers (all_books all) back
-    in let named = logs_of stage end.controller end.carriers (all_books all) back.kept
+    in let named = logs_of stage end.controller end.carriers (all_books all) back.left.kept
     in let parts = are_append (mux_logs stage 0 end.carriers)
-    (shard_logs stage end.controller end.carriers (all_books all) back.kept)
+    (shard_logs stage end.controller end.carriers (all_books all) back.left.kept)
     (map (λ (w : MuxWorker). w.mux.log) workers) (map book_log (all_books all))
     (muxes_are stage 0 end.carriers workers end.standing.at_work.count
-    (λ i w here. (end.standing.at_work.each i w here).logged ∙ ap (λ (k : ℕ). mux_log stage k (notes_by end.carriers i))
+    (λ i w here. (end.standing.at_work.each i w here).going.logged ∙ ap (λ (k : ℕ). mux_log stage k (notes_by end.carriers i))
     (omega arith)))
-    (shards_are stage end.controller end.carriers (all_books all) back.kept)
+    (shards_are stage end.controller end.carriers (all_books all) back.left.kept)
     in let whole : AreLogs (plain named) ((leader.log.items ∷ map (λ (w : MuxWorker). w.mux.log) workers)
     ++ map book_log (all_books all)) = (sym end.standing.led.log, parts)
     in let lists : (leader.log.items ∷ map (λ (w : MuxWorker). w.mux.log) workers) ++ map book_log (all_books all)

@@ -4,14 +4,15 @@ ghost use Rattle.std.specs.Prelude.{List as Items, IfOk, OnOk};
 ghost use Rattle.bm_mux.specs.Muxes.{HasServers};
 ghost use Rattle.bm_rows.specs.Rows.{items_of};
 ghost use Rattle.bm_server.specs.Seats.{Seated};
-ghost use Rattle.bm_world.specs.Inside.RunStates.{HasSeenAll, HaveNoTurns, IsNewWorker, rows_of};
+ghost use Rattle.bm_world.specs.Inside.RunStates.{HaveNoTurns, IsNewWorker, WereShown, rows_of};
+ghost use mathlib.Core.List.{IsPrefix};
 
 use crate::servers::Rows;
 use bm_base::{List, Memory, MuxId};
 use bm_core::Log;
 use bm_lead::Leader;
 use bm_mux::Mux;
-use bm_publish::{Look, Poster, Snapshot};
+use bm_publish::{Look, Poster};
 use bm_server::ServerSeat;
 use bm_worker::{Caller, MuxWorker};
 use std::alloc::Global;
@@ -64,35 +65,35 @@ pub(crate) fn make_workers(
     Ok(workers)
 }
 
-/// What a mux's worker gives back: the mux's log, once it has learned what was posted and looked,
-/// and the worker's seats.
-fn part(worker: MuxWorker, snapshot: Snapshot) -> Result<(Log, Vec<ServerSeat>), Memory>
-    requires { snapshot.board ≡ worker.mux.seen.board }
-    ensures log { IfOk result (λ parts. parts.0 ≡ worker.mux.log) }
-    ensures seats { IfOk result (λ parts. parts.1.items ≡ worker.caller.seats) }
-    ensures shown { OnOk result (HasSeenAll snapshot worker) }
+/// What a mux's worker gives back: the mux's log, and the worker's seats. The mux was shown a
+/// beginning of what was posted.
+fn part(worker: MuxWorker, poster: &mut Poster) -> (Log, Vec<ServerSeat>)
+    requires { worker.mux.seen.board ≡ poster.old.board }
+    ensures kept { poster.new ≡ poster.old }
+    ensures log { result.0 ≡ worker.mux.log }
+    ensures seats { result.1.items ≡ worker.caller.seats }
+    ensures shown { IsPrefix worker.mux.seen.clocks poster.old.clocks }
 {
     let MuxWorker { mux, caller, .. } = worker;
-    let log = mux.into_log(snapshot)?;
-    Ok((log, caller.into_seats()))
+    let log = mux.into_log(poster);
+    (log, caller.into_seats())
 }
 
 /// What the workers give back: the logs of the controller and of the muxes, and each worker's
-/// seats. Each mux looks once more, at all that is posted.
+/// seats. The muxes were shown what was posted, and nothing else.
 pub(crate) fn take_apart(
     alloc: Global,
-    poster: &Poster,
+    poster: &mut Poster,
     leader: Leader,
     workers: Vec<MuxWorker>,
 ) -> Result<(Vec<Log>, Rows), Memory>
     requires boards { (m : ℕ) (w : _) → slice_get workers.items m ≡ Some w
-        → w.mux.seen.board ≡ poster.now.board }
+        → w.mux.seen.board ≡ poster.old.board }
     ensures logs { IfOk result
         (λ back. back.0.items ≡ leader.log.items ∷ map (λ w. w.mux.log) workers.items) }
     ensures rows { IfOk result
         (λ back. items_of back.1.items ≡ rows_of leader.caller.seats workers.items) }
-    ensures shown { OnOk result ((m : ℕ) (w : _) → slice_get workers.items m ≡ Some w
-        → HasSeenAll poster.now w) }
+    ensures shown { OnOk result (WereShown poster.old workers.items) }
 {
     let Leader { caller, log, .. } = leader;
     let mut logs = Vec::new(alloc);
@@ -100,7 +101,7 @@ pub(crate) fn take_apart(
     logs.push(List::of(log))?;
     rows.push(caller.into_seats())?;
     for worker in workers {
-        let (log, seats) = part(worker, poster.snapshot())?;
+        let (log, seats) = part(worker, poster);
         logs.push(log)?;
         rows.push(seats)?;
     }

@@ -88,7 +88,7 @@ fn work_beside<W: Threads + Wait + Sync, F: Fn(u32, Hop) -> Fate + Sync, G: Gate
     ensures led { UnlessMemory result (HasLed shared.now.stage shared.now.servers poster.old
         poster.new leader.old leader.new) }
     ensures next { OnOk result (leader.new.next ≡ until) }
-    ensures stop { IfErr result (IsStopFrom (9 * 10 ^ 18 - 4096) leader.new.caller.latest) }
+    ensures stop { IfErr result (IsStopFrom (9 * 10 ^ 18) leader.new.caller.latest) }
     ensures count { length workers.new ≡ length workers.old }
     ensures worked { In F.Fn shared.now HaveWorked shared.now.routes span workers.old workers.new }
 {
@@ -110,7 +110,7 @@ fn work_beside<W: Threads + Wait + Sync, F: Fn(u32, Hop) -> Fate + Sync, G: Gate
             ensures { UnlessMemory result (HasLed shared.entry.now.stage shared.entry.now.servers
                 poster.entry.now poster.exit.now leader.entry.now leader.exit.now)
                 × OnOk result (leader.exit.now.next ≡ until)
-                × IfErr result (IsStopFrom (9 * 10 ^ 18 - 4096) leader.exit.now.caller.latest) }
+                × IfErr result (IsStopFrom (9 * 10 ^ 18) leader.exit.now.caller.latest) }
         { lead_phase(rt, shared, poster, leader, until) },
     );
     led
@@ -240,7 +240,7 @@ pub(crate) fn run_phases<W: Threads + Wait + Sync, F: Fn(u32, Hop) -> Fate + Syn
     requires first { In F.Fn shared.now IsBetween shared.now.routes poster.old leader.old
         workers.old 0 }
     ensures late { IfOk result (λ late. MatchBool late
-        (In F.Fn shared.now HasGivenUp poster.new leader.new workers.new)
+        (In F.Fn shared.now HasGivenUp shared.now.routes poster.new leader.new workers.new)
         (In F.Fn shared.now IsThrough shared.now.routes poster.new leader.new workers.new)) }
     ensures count { length workers.new ≡ length workers.old }
 {

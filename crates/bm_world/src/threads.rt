@@ -1,13 +1,9 @@
 //! A run of a stage in threads.
-ghost use Rattle.std.specs.Prelude.{◌≡◌, [], ℕ, ◌+◌, ◌*◌, ◌^◌, ◌≤◌, length, slice_get, Some};
-ghost use Rattle.std.specs.Prelude.{All, IfOk, MatchBool, OnOk};
+ghost use Rattle.std.specs.Prelude.{◌≡◌, [], ℕ, ◌+◌, length, slice_get, Some, All, IfOk};
 ghost use Rattle.bm_core.specs.Stages.{IsSound};
 ghost use Rattle.bm_core.specs.Threads.{IsThreadedRun};
 ghost use Rattle.bm_fault.specs.Faults.{Gives, IsRule};
 ghost use Rattle.bm_link.specs.Fits.{ArePackets};
-ghost use Rattle.bm_lead.specs.Leaders.{HasPosted};
-ghost use Rattle.bm_lead.specs.Rests.{Adds};
-ghost use Rattle.bm_merge.specs.Notes.{Note};
 ghost use Rattle.bm_route.specs.Routes.{Answers, IsRoute};
 ghost use Rattle.bm_rows.specs.Rows.{items_of};
 ghost use Rattle.bm_worker.specs.Environments.{In};
@@ -26,7 +22,7 @@ use bm_base::{Fate, Flow, Hop, List, Memory, MuxId, Octets};
 use bm_core::{Event, History, Log, Stage};
 use bm_fault::Faults;
 use bm_io::Gate;
-use bm_lead::{Leader, post_the_rest};
+use bm_lead::Leader;
 use bm_publish::{Look, Poster, board};
 use bm_route::Route;
 use bm_worker::{Caller, Shared};
@@ -46,27 +42,6 @@ struct Back {
     logs: Vec<Log>,
     /// Each worker's seats.
     rows: Rows,
-}
-
-/// Posts the changes that are left, if a worker has given up.
-fn post_left<W: Wait>(
-    rt: &W,
-    stage: &Stage,
-    poster: &mut Poster,
-    leader: &mut Leader,
-    late: bool,
-) -> Result<(), Memory>
-    requires posted { HasPosted stage.now poster.old leader.old }
-    requires early { leader.old.last_post.0 + 4096 ≤ 9 * 10 ^ 18 }
-    ensures { OnOk result (MatchBool late
-        (((rest : List Note) × Adds stage.now poster.old poster.new leader.old leader.new rest)
-        × (length poster.new.clocks ≡ length stage.now.script.plan.changes))
-        ((poster.new ≡ poster.old) × (leader.new ≡ leader.old))) }
-{
-    if late {
-        post_the_rest(rt, stage, poster, leader)?;
-    }
-    Ok(())
 }
 
 /// The workers of a run, on a board where nothing is posted.
@@ -94,7 +69,6 @@ fn run_on_board<W: Threads + Wait + Sync, F: Fn(u32, Hop) -> Fate + Sync, G: Gat
     let mut leader = Leader::new(alloc, Caller::new(0, first));
     let mut workers = make_workers(alloc, stage.script.setting.buckets, looks, others)?;
     let late = run_phases(rt, shared, poster, &mut leader, workers.as_mut_slice())?;
-    post_left(rt, stage, poster, &mut leader, late)?;
     let (logs, rows) = take_apart(alloc, poster, leader, workers)?;
     Ok(Back { late, logs, rows })
 }

@@ -1,5 +1,5 @@
 -- How worker 0 carries out one command. Only the proofs of bodies use this.
-use Rattle.std.specs.Prelude.{◌≡◌, ℕ, suc, ◌+◌, ◌-◌, ◌*◌, ◌^◌, ◌<◌, ◌≤◌, max, Bool, true}
+use Rattle.std.specs.Prelude.{◌≡◌, ℕ, suc, ◌+◌, ◌-◌, ◌<◌, ◌≤◌, max, Bool, true}
 use Rattle.std.specs.Prelude.{List, [], ◌∷◌, ◌++◌, length}
 use Rattle.bm_base.specs.declared.ids.Moment.{Moment}
 use Rattle.bm_base.specs.declared.ids.ServerId.{ServerId}
@@ -13,7 +13,7 @@ use Rattle.bm_core.specs.Past.{published_by, timeout}
 use Rattle.bm_core.specs.Runs.{next_clock}
 use Rattle.bm_merge.specs.Notes.{Note, greatest}
 use Rattle.bm_server.specs.Servings.{Serving}
-use Rattle.bm_publish.specs.Posts.{Posted, last_or}
+use Rattle.bm_publish.specs.Posts.{Posted}
 use Rattle.bm_worker.specs.WorkerNotes.{GetReplies, IsSameCaller, HasSeats}
 use Rattle.bm_worker.specs.Inside.WorkerNotes.{closing, retiring}
 use Rattle.bm_worker.specs.Callers.{CallerState}
@@ -34,7 +34,6 @@ abbrev pub AreOf : Stage → ℕ → ℕ → ℕ → Command → List Note → T
 AreOf stage latest published i (Change v) notes =
     (clock : Moment) × (notes ≡ publishing clock v i ∷ [])
     × (clock.0 ≡ next_clock latest (change_moment (next_change stage.script.plan (v.0 - 1))))
-    × (clock.0 + 4096 ≤ 9 * 10 ^ 18)
 AreOf stage latest published i (Close at server flow) notes =
     (clock : Moment) × (closed : Bool)
     × (notes ≡ closing clock server flow closed i (max at.0 latest) 0 ∷ [])
@@ -72,7 +71,6 @@ pub record HasDone (stage : Stage) (servers : List Serving) (p q : Posted) (a b 
   pub next : b.next ≡ a.next
   pub log : b.log.items ≡ a.log.items ++ control_log stage notes
   pub posted : q ≡ record p { clocks = p.clocks ++ posted_clocks (control_log stage notes) }
-  pub last_post : b.last_post.0 ≡ last_or a.last_post.0 (posted_clocks (control_log stage notes))
   pub published : b.published.0 ≡ published_after (control_log stage notes) a.published.0
 
 -- worker 0 carried out a command like this, from p and a to q and b

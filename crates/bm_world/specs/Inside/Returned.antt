@@ -1,10 +1,10 @@
 -- What the workers of a run give back when all phases are done: what each did, what its mux logged,
 -- and the books of the shards. Only the proofs of bodies use this.
-use Rattle.std.specs.Prelude.{◌≡◌, ℕ, suc, ◌==◌, ◌<◌, ◌≤◌, Bool, true, false}
+use Rattle.std.specs.Prelude.{◌≡◌, ℕ, suc, ◌==◌, ◌<◌, Bool, true, false}
 use Rattle.std.specs.Prelude.{◌&&◌, ◌||◌}
-use Rattle.std.specs.Prelude.{if◌then◌else◌, List, [], ◌∷◌, ◌++◌, length, reverse}
+use Rattle.std.specs.Prelude.{List, [], ◌∷◌, reverse}
 use Rattle.std.specs.Prelude.{Some}
-use Rattle.std.specs.Prelude.{IfSome, is_some}
+use Rattle.std.specs.Prelude.{IfSome}
 use Rattle.std.specs.List.{AllByRecursion}
 use Rattle.bm_base.specs.declared.label.Label.{Label}
 use Rattle.bm_base.specs.Labels.{tag_of}
@@ -13,11 +13,10 @@ use Rattle.bm_core.specs.declared.events.What.TheVariants.{Arrive as Arrives, Cl
 use Rattle.bm_core.specs.declared.events.What.TheVariants.{Retire as Retires}
 use Rattle.bm_core.specs.declared.events.Event.{Event}
 use Rattle.bm_core.specs.declared.events.Stage.{Stage}
-use Rattle.bm_core.specs.Past.{segment_of, shard, newest, label_of}
+use Rattle.bm_core.specs.Past.{segment_of, shard, label_of}
 use Rattle.bm_core.specs.Runs.{AtEach}
-use Rattle.bm_core.specs.Runs.Actor.{Controller, ShardOf}
-use Rattle.bm_core.specs.Accounts.{Routes, Rules, counts, is_sync, steers_packet}
-use Rattle.bm_core.specs.Stages.{IsSound}
+use Rattle.bm_core.specs.Runs.Actor.{ShardOf}
+use Rattle.bm_core.specs.Accounts.{Routes, Rules, counts, is_sync}
 use Rattle.bm_core.specs.Threads.{newest_before, sync_clock}
 use Rattle.bm_core.specs.Threads.{packet_of}
 use Rattle.bm_core.specs.Threads.{phase_of}
@@ -26,9 +25,9 @@ use Rattle.bm_shard.specs.declared.calls.ShardCall.{ShardCall}
 use Rattle.bm_shard.specs.declared.calls.ShardCall.TheVariants.{Arrive}
 use Rattle.bm_shard.specs.Books.{Book, Replays}
 use Rattle.bm_shard.specs.Laws.{IsOf}
-use Rattle.bm_merge.specs.Notes.{Note, events_of, many, until}
-use Rattle.bm_merge.specs.Workers.{notes_by, notes_of_all, home_part}
-use Rattle.bm_merge.specs.Workers.{looks_since, IsCarrier, IsController, IsMet}
+use Rattle.bm_merge.specs.Notes.{Note, until}
+use Rattle.bm_merge.specs.Workers.{notes_by, home_part}
+use Rattle.bm_merge.specs.Workers.{IsCarrier}
 use Rattle.bm_worker.specs.Phases.{mux_log, IsInOrder, IsMuxGiven}
 pub use Rattle.bm_lead.specs.Commands.{control_log, posted_clocks, IsControlStep, IsJudgedBy}
 use Rattle.bm_world.specs.Inside.Shards.{entries_by, AreNoted}
@@ -112,34 +111,3 @@ IsBooked stage books (Arrives k hop server verdict) =
 IsBooked stage books (Closes server flow closed) = has_book books server.0 (shard stage flow) ≡ true
 IsBooked stage books (Retires server h at result) = has_book books server.0 h ≡ true
 IsBooked stage books _ = Unit {0}
-
--- TOGETHER
-
--- what the workers gave back, and the servers' books
-pub record AreHandedBack (R : Routes) (F : Rules) (stage : Stage) (controller : List Note)
-    (carriers : List (List Note)) (books : List Book) : Type 0 where
-  pub sound : IsSound stage
-  pub muxes : length carriers ≡ stage.script.setting.muxes
-  pub controls : IsController stage controller
-  pub control : IsControl stage controller
-  pub carried : (m : ℕ) → m < length carriers
-      → IsCarriage R F stage (control_log stage controller)
-      (posted_clocks (control_log stage controller)) m
-      (notes_by carriers m)
-  -- each steerable record is steered once, by one of the workers, and no other is
-  pub steered : (k : ℕ)
-      → many (λ n. steers_packet n.event.what k) (notes_of_all carriers)
-      ≡ (if is_some (segment_of stage k) then 1 else 0)
-  -- each Sync comes after what all workers did of its phase
-  pub met : AtEach
-      (λ rest n. IsMet stage (controller ++ notes_of_all carriers) (events_of rest) n n.event.what)
-      (home_part stage Controller controller)
-  pub changes : newest (control_log stage controller) ≡ length stage.script.plan.changes
-  -- each mux has looked in the last phase too
-  pub looked : (m : ℕ) → m < stage.script.setting.muxes
-      → 1 ≤ many (looks_since m (sync_clock (control_log stage controller)))
-      (controller ++ notes_of_all carriers)
-  pub kept : AllByRecursion (IsBookOfAll stage controller carriers) books
-  pub own : HaveOwnBooks books
-  pub booked : AllByRecursion (λ n. IsBooked stage books n.event.what)
-      (controller ++ notes_of_all carriers)

@@ -17,7 +17,7 @@ use Rattle.bm_merge.specs.Rising.{in_order}
 use Rattle.bm_merge.specs.Notes.{Note}
 use Rattle.bm_server.specs.Seats.{Seated, most_turns}
 use Rattle.bm_server.specs.Servings.{Serving}
-use Rattle.bm_publish.specs.Posts.{Continues, IsPosted, Posted}
+use Rattle.bm_publish.specs.Posts.{Posted}
 use Rattle.bm_worker.specs.WorkerNotes.{AreServersOf}
 use Rattle.bm_worker.specs.Phases.{HasWorked}
 use Rattle.bm_worker.specs.Assigned.{RoutedBy}
@@ -28,7 +28,6 @@ use Rattle.bm_worker.specs.declared.worker.MuxWorker.{MuxWorker}
 use Rattle.bm_lead.specs.declared.leader.Leader.{Leader}
 use Rattle.bm_lead.specs.Leaders.{IsReady, IsStopFrom}
 use Rattle.bm_lead.specs.Leads.{HasSynced, IsLed, IsPlaced}
-use Rattle.bm_lead.specs.Rests.{Adds}
 use Rattle.bm_world.specs.declared.phase.Next.{Next}
 use Rattle.bm_world.specs.declared.phase.Next.TheVariants.{Phase, End, Late as TooLate}
 use Rattle.bm_world.specs.Inside.GivenUp.{HasGivenUp}
@@ -164,7 +163,7 @@ IsNext F stage servers routes posted leader workers (Phase start) =
 IsNext F stage servers routes posted leader workers End =
     IsThrough F stage servers routes posted leader workers
 IsNext F stage servers routes posted leader workers TooLate =
-    HasGivenUp F stage servers posted leader workers
+    HasGivenUp F stage servers routes posted leader workers
 
 -- if a phase comes next, one more than the commands that are left; otherwise 0
 abbrev pub left_of : Next → ℕ → ℕ → ℕ
@@ -173,22 +172,10 @@ left_of _ next all = 0
 
 -- AT THE END
 
--- the mux learned these posts, and then looked: what it was shown by then
-pub record HasSeenAll (posted : Posted) (w : MuxWorker) : Type 0 where
-  pub seen : Posted
-  pub is_posted : IsPosted seen
-  pub later : Continues w.mux.seen seen
-  pub learned : Continues posted seen
-
--- if a worker gave up, all changes that were left are posted too
-pub record HasPostedRest (F : Rules) (stage : Stage) (servers : List Serving) (posted : Posted)
-    (leader : Leader) (workers : List MuxWorker) : Type 0 where
-  pub before : Posted
-  pub start : Leader
-  pub rest : List Note
-  pub given_up : HasGivenUp F stage servers before start workers
-  pub added : Adds stage before posted start leader rest
-  pub all : length posted.clocks ≡ length stage.script.plan.changes
+-- the muxes were shown what was posted, and nothing else
+abbrev pub WereShown : Posted → List MuxWorker → Type 0
+WereShown posted workers = (m : ℕ) (w : MuxWorker) → slice_get workers m ≡ Some w
+    → IsPrefix w.mux.seen.clocks posted.clocks
 
 -- what the workers give back: the logs of the controller and of the muxes, and their seats
 pub record IsBack (F : Rules) (stage : Stage) (servers : List Serving)
@@ -197,13 +184,11 @@ pub record IsBack (F : Rules) (stage : Stage) (servers : List Serving)
   pub posted : Posted
   pub leader : Leader
   pub workers : List MuxWorker
-  pub stood : MatchBool late (HasPostedRest F stage servers posted leader workers)
+  pub stood : MatchBool late (HasGivenUp F stage servers routes posted leader workers)
       (IsThrough F stage servers routes posted leader workers)
   pub logs_are : logs ≡ leader.log.items ∷ map (λ w. w.mux.log) workers
   pub rows_are : rows ≡ rows_of leader.caller.seats workers
-  -- the muxes were shown what was posted, and nothing else
-  pub shown : (m : ℕ) (w : MuxWorker) → slice_get workers m ≡ Some w
-      → IsPrefix w.mux.seen.clocks posted.clocks
+  pub shown : WereShown posted workers
 
 -- these are the events of a threaded run of the stage
 abbrev pub MakeRun : Routes → Rules → Stage → List Event → Type 0

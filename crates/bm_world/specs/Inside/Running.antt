@@ -2,7 +2,7 @@
 -- the proofs of bodies use this.
 use Rattle.std.specs.Prelude.{◌≡◌, ℕ, ◌+◌, ◌*◌, ◌<◌, ◌≤◌, if◌then◌else◌, List}
 use Rattle.std.specs.Prelude.{◌∷◌, ◌++◌, length}
-use Rattle.std.specs.Prelude.{reverse, slice_get, Option, Some, None, IfSome, take}
+use Rattle.std.specs.Prelude.{slice_get, Option, Some, None, IfSome, take}
 use Rattle.std.specs.List.{AllByRecursion}
 use Rattle.logbook.specs.Pages.{Book}
 use Rattle.bm_base.specs.declared.ids.MuxId.{MuxId}
@@ -10,51 +10,34 @@ use Rattle.bm_core.specs.declared.events.Event.{Event}
 use Rattle.bm_core.specs.declared.events.Stage.{Stage}
 use Rattle.bm_core.specs.Accounts.{Routes, Rules, count_of, steers_packet}
 use Rattle.bm_core.specs.Accounts.{wants_sync}
-use Rattle.bm_core.specs.Runs.Actor.{Controller, ShardOf}
+use Rattle.bm_core.specs.Runs.Actor.{Controller}
 use Rattle.bm_core.specs.Threads.{sync_clock, newest_before, packet_of, is_sync_by, record_moment}
 use Rattle.bm_merge.specs.Notes.{Note, many, total, greatest}
 use Rattle.bm_merge.specs.Workers.{home_part, notes_by, notes_of_all, looks_since}
 use Rattle.bm_merge.proofs.Phasing.{IsPhased}
-use Rattle.bm_server.specs.Seats.{Seated}
-use Rattle.bm_server.specs.Servings.{Serving, shard_at}
-use Rattle.bm_worker.specs.WorkerNotes.{clock_of, noted, timed_events, HasSeats}
-use Rattle.bm_worker.specs.Phases.{mux_log, AreCopies, IsPlaced, is_steer}
-use Rattle.bm_worker.specs.Phases.{notes_per_packet, entries_per_packet, tries_per_packet}
-use Rattle.bm_worker.specs.SeatCalls.{calls_there}
+use Rattle.bm_server.specs.Servings.{Serving}
+use Rattle.bm_worker.specs.WorkerNotes.{clock_of}
+use Rattle.bm_worker.specs.Phases.{entries_per_packet, tries_per_packet}
 use Rattle.bm_worker.specs.Assigned.{is_assigned}
 use Rattle.bm_worker.specs.declared.worker.MuxWorker.{MuxWorker}
+pub use Rattle.bm_world.specs.Inside.Going.{HaveReplies, IsGoing}
 use Rattle.bm_world.specs.Inside.Returned.{control_log, IsCarriage}
-
--- these seats' calls and replies are exactly what was done at each shard, in its order
-abbrev pub HaveReplies : Stage → List Serving → List (List Seated) → List Note → Type 0
-HaveReplies stage servers seats notes =
-    (s h : ℕ) (server : Serving) → slice_get servers s ≡ Some server
-    → timed_events (shard_at server h) (calls_there seats s h) ≡ noted stage (ShardOf server.id.0 h) notes
 
 -- the worker of mux m, after this many phases, in which the records before this place were carried
 pub record IsAtWork (R : Routes) (F : Rules) (stage : Stage) (servers : List Serving)
     (routes : List (Option MuxId))
     (control : List Event) (board : Book) (phases until m : ℕ) (w : MuxWorker) (notes : List Note) :
     Type 0 where
+  pub going : IsGoing F stage servers routes control board phases until m w.mux w.caller notes
   pub carriage : IsCarriage R F stage control w.mux.seen.clocks m notes
-  pub id : w.mux.id.0 ≡ m
-  pub logged : reverse w.mux.log ≡ mux_log stage m notes
-  pub replies : HaveReplies stage servers w.caller.seats notes
-  pub copies : AreCopies stage w.mux.id servers (reverse w.mux.log) w.caller.seats
-  pub placed : AllByRecursion (λ n. IsPlaced servers n.event.what) notes
   pub latest : w.caller.latest ≡ greatest clock_of notes
   pub steered : (k : ℕ) → many (λ n. steers_packet n.event.what k) notes
       ≡ (if is_assigned routes m 0 until k then 1 else 0)
   pub within : AllByRecursion (λ n. IfSome (packet_of n.event.what) (λ k. k ≤ until)) notes
-  pub number : w.caller.number ≡ m + 1
-  pub has_seats : HasSeats servers w.caller
-  pub board_is : w.mux.seen.board ≡ board
   pub plan : w.mux.seen.plan ≡ stage.script.plan
   pub tries : w.caller.tries ≤ tries_per_packet * until
   pub steps : w.steps ≤ until
   pub room : length w.mux.log ≤ entries_per_packet * until + phases
-  -- besides the first Switch of each phase, at most as many notes as the packets may lead to
-  pub few : length notes ≤ notes_per_packet * many (λ n. is_steer n.event.what) notes + phases
   pub stop : w.stop ≡ None
 
 -- the notes of a phase before those of earlier phases, for each worker

@@ -51,7 +51,6 @@ returns-clause-ok g c = λ p.
         next = refl;
         log = sym (append-nil a.log.items);
         posted = ap (λ (l : List ℕ). record p { clocks = l }) (sym (append-nil p.clocks));
-        last_post = refl;
         published = refl;
       },
     )

@@ -35,7 +35,6 @@ returns-clause-ok g c =
         c.in_ok-clock.ensures.ok.0 ∙ (ap (λ (k : ℕ). next_clock k c.in_ok-change.change.moment.0) c.latest.ensures
             ∙ ap (λ (o : Option Change). next_clock a.caller.latest (change_moment o)) (sym (changed c.stage.result.now c.args.shared.now.stage
             (c.args.version.0 - 1) c.in_ok-change.change c.stage.ensures.value c.in_ok-change.ensures))),
-        omega (arith, c.in_ok-clock.ensures.ok.1),
       ),
       record {
         called = record {
@@ -49,7 +48,6 @@ returns-clause-ok g c =
         next = refl;
         log = c.in_ok-write_down.ensures;
         posted = c.in_ok-post.ensures.ok;
-        last_post = refl;
         published = refl;
       },
     )

@@ -39,5 +39,5 @@ returns-clause-ok g c = λ p.
       ),
       has_called c.args.shared.now.stage c.args.shared.now.servers p a (record a { caller = c.retire_shards.new.caller }) made.0
           made.2 (retirings_elsewhere c.args.shared.now.stage a.next shards c.args.server due outcome made.0 are)
-          refl refl refl refl,
+          refl refl refl,
     )

@@ -49,7 +49,6 @@ returns-clause-synced c = λ servers posted servers_are ready.
       next = refl;
       log = c.in_ok-write_down.ensures;
       posted = ap (λ (l : List ℕ). record posted { clocks = l }) (sym (append-nil posted.clocks));
-      last_post = refl;
       published = refl;
     } in
     let of : AreOf stage a.caller.latest a.published.0 a.next (Sync at) (syncing clock a.next ∷ []) =

@@ -129,11 +129,10 @@ unreachable-requires g c =
     → AreBooksThere servers (rows_of back.leader.caller.seats back.workers) s books =
     λ s books here. subst (λ (x : List (List (List Seated))). AreBooksThere servers x s books) back.rows_are
     (c.in_ok-books.ensures.books s books here) in
-    let rest = subst (λ (b : Bool). Stood F stage servers c.args.routes.items b back.posted back.leader back.workers)
+    let given = subst (λ (b : Bool). Stood F stage servers c.args.routes.items b back.posted back.leader back.workers)
     c.if-late.true back.stood in
-    none_late F stage servers rest.before back.posted rest.start back.leader back.workers rest.rest
-    c.in_ok-books.books.items c.requires.sound servers_are seats c.requires.faults.delay rest.given_up rest.added rest.all
-    back.shown c.in_ok-books.ensures.count books
+    none_late F stage servers c.args.routes.items back.posted back.leader back.workers c.in_ok-books.books.items c.requires.sound servers_are
+    seats c.requires.faults.delay given back.shown c.in_ok-books.ensures.count books
 
 pub returns : goal.returns
 returns g c =
