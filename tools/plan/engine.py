@@ -27,8 +27,17 @@ NEEDED = re.compile(r"needed change \d+ for (\S+) by (\S+)")
 OPEN_END = re.compile(r"open-at-end change \d+ connections \d+ longest-idle (\S+)")
 
 
+UNPROVED = """no proved program is built, or a source is newer: each replay compiles the source first, without proof, for a minute or two; \
+{} proves and builds it"""
 # What stands before a fault: the program's name, and that of a part or of a script.
 FILE = re.compile(r"beamer(?:-connections: .*?/(?:part|script)[-\w.]*)?: ")
+
+
+def is_unproved():
+    """Whether `beamer-connections` has no proved program to run, and compiles its source instead."""
+    crate = "bm_connections_app"
+    words = [os.path.join(TOP, "tools", "crates"), "stale", os.path.join(TOP, "crates", crate, "out", crate), crate]
+    return "CONNECTIONS" not in os.environ and subprocess.run(words, stdout=subprocess.DEVNULL).returncode == 0
 
 
 def faults_of(path):
@@ -80,6 +89,12 @@ class Outcome:
         rest = text[text.find(b"\n", last + 1) + 1 if last >= 0 else text.find(b"\n") + 1 :]
         self.lines = [text[: text.find(b"\n")].decode(), *rest.decode().splitlines()]
         self.failed = list(map(Connection, lines_with(text, b" because ")))
+
+    def of_clients(self, clients):
+        """The connections of these clients in the part."""
+        begins = tuple(f"connection {client} " for client in clients)
+        with open(self.path) as file:
+            yield from (Connection(line.rstrip("\n")) for line in file if line.startswith(begins))
 
     def connections(self):
         """All connections of the part."""

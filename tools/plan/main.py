@@ -4,7 +4,7 @@ from contextlib import ExitStack
 from datetime import datetime
 from plan import page
 from plan.answers import Answer
-from plan.engine import Engine
+from plan.engine import TOP, UNPROVED, Engine, is_unproved
 from plan.faults import BREAKS, USAGE, WRITE, Refusal
 from plan.hosts import Hosts
 from plan.moments import of_datetime
@@ -16,6 +16,7 @@ from plan import schedules
 from plan.schedules import Schedules
 from plan.search import TRIES, Search
 from plan.table import table_json, table_lines
+from plan.tales import Tales, tales_json, tales_lines
 from plan.text import json_of, of_check, text_lines
 from plan.traffic import read_traffic
 from plan.what_if import Times, Variant, rows_of, variants_of
@@ -80,7 +81,8 @@ def parser():
     search.add_argument("--tries", metavar="N", type=int, help=f"the most replays of a search ({TRIES} if it isn't said)")
     words.add_argument("--json", action="store_true", help="the answer as a JSON object")
     words.add_argument("--html", metavar="FILE", help="write the answer as a page for a browser too (docs/PLANNING.md)")
-    words.add_argument("--story", metavar="CLIENT", action="append", help="a client (ADDRESS:PORT) whose story the page has in any case")
+    words.add_argument("--story", metavar="CLIENT", action="append", help="the story of this client (ADDRESS:PORT) in place of the "
+                       "answer; with --html the page has it in any case")
     return words
 
 
@@ -114,9 +116,11 @@ def look(given):
     if makers and len(scripts) > 1:
         raise Refusal(USAGE, "name one script, or a fleet, from which the rows of the table are made")
     given.is_table = given.what_if or len(scripts) > 1 or bool(makers)
-    for word in ("search", "keep_script", "schedules"):
+    for word in ("search", "keep_script", "schedules", "story"):
         if given.is_table and getattr(given, word):
             raise Refusal(USAGE, f"--{word.replace('_', '-')} is for one script, not for a table")
+    if given.story and given.schedules and not given.html:
+        raise Refusal(USAGE, "--schedules is for the answer, and --story tells the story in place of it: say one of them")
     schedules.look(given.schedules)
     if given.ssh_config and not given.hosts:
         raise Refusal(USAGE, "--ssh-config is for --hosts")
@@ -150,7 +154,7 @@ def variants(given, plans, times):
 
 
 class Told:
-    """An answer, or a table, or what a search found with its answer: as text, as JSON, and as a status."""
+    """An answer, or a table, or stories, or what a search found with its answer: as text, as JSON, and as a status."""
 
     def __init__(self, given, plans, traffic, engine):
         self.given, self.traffic, self.search, self.rows = given, traffic, None, None
@@ -162,6 +166,9 @@ class Told:
         if given.search:
             self.search = Search(engine, script, given.tries or TRIES)
             script = self.search.script
+        if given.story and not given.html:
+            self.answer = Tales(engine, script, traffic, times.zero, given.story)
+            return
         self.answer = Answer(engine, script, traffic, times.zero)
         if given.schedules:
             self.answer.schedules = Schedules(engine, script, given.schedules, traffic.end - traffic.zero)
@@ -170,6 +177,8 @@ class Told:
         paths = self.given.captures
         if self.rows is not None:
             return table_json(paths, self.traffic, self.rows) if self.given.json else "\n".join(table_lines(paths, self.traffic, self.rows))
+        if isinstance(self.answer, Tales):
+            return tales_json(paths, self.answer, self.search) if self.given.json else "\n".join(tales_lines(paths, self.answer, self.search))
         if self.given.json:
             return json_of(paths, self.answer, self.search)
         return "\n".join([*text_lines(paths, self.answer, has_colours, self.search)])
@@ -206,6 +215,8 @@ def told_of(given):
 def check_of(given):
     """The lines for a script alone."""
     page.look(given)
+    if given.story:
+        raise Refusal(USAGE, "--check judges a script alone, and a story needs a capture: say --script in place of --check")
     plan = Plan(given, given.check)
     times = [of_datetime(it["at"]) for it in plan.script.commands if isinstance(it.get("at"), datetime)]
     begin, end = min(times, default=0), max(times, default=0)
@@ -254,6 +265,8 @@ def main():
             if signal.getsignal(number) != signal.SIG_IGN:
                 signal.signal(number, stopped)
         given = parser().parse_args()
+        if (given.check or given.captures) and is_unproved():
+            print(f"beamer-plan: {UNPROVED.format(os.path.join(os.path.relpath(TOP), 'tools', 'prove'))}", file=sys.stderr, flush=True)
         if given.check:
             print(check_of(given), flush=True)
         elif given.captures:

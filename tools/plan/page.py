@@ -23,8 +23,6 @@ def look(given):
     """Refuses words of the page that don't fit the others, and a file that can't be written."""
     path = given.html
     if not path:
-        if given.story:
-            raise Refusal(USAGE, "--story CLIENT is for the page of --html FILE")
         return
     if given.check or given.is_table:
         raise Refusal(USAGE, f"--html is for the replay of one script, not for {'--check' if given.check else 'a table'}")

@@ -9,15 +9,12 @@ class Stories:
     """What `--of CLIENT SERVICE` prints of the first of the connections that something broke or refused, and of the named clients.
     `texts` has it by the flow, and nothing of a story that is too long."""
 
-    def __init__(self, answer, affected, clients):
-        self.engine, self.script = answer.engine, answer.script
-        outcomes = zip(self.engine.paths, answer.replay.outcomes)
-        self.parts = {one.flow: part for part, outcome in outcomes for one in outcome.connections()}
-        named = [it for it in answer.replay.connections.values() if it.client in set(clients)]
-        missing = set(clients) - {it.client for it in named}
-        if missing:
-            raise Refusal(USAGE, f"--story {min(missing)}: the captures have no connection of this client: say ADDRESS:PORT")
-        told = {it.flow: it for it in [*affected[:MOST], *named]}
+    def __init__(self, judged, affected, clients):
+        self.engine, self.script = judged.engine, judged.script
+        named = list(of_clients(judged, clients))
+        parts = {one.flow: part for part, outcome in zip(self.engine.paths, judged.replay.outcomes) for one in outcome.failed}
+        self.parts = parts | {one.flow: part for part, one in named}
+        told = {it.flow: it for it in [*affected[:MOST], *[one for _, one in named]]}
         self.path = self.engine.written(self.script)
         if self.engine.progress:
             self.engine.progress.stage("stories")
@@ -32,3 +29,14 @@ class Stories:
             self.engine.progress.step()
         with open(path) as file:
             return file.read()
+
+
+def of_clients(judged, clients):
+    """The connections of these clients, each with the part of the captures in which it is. A client without one is refused."""
+    missing = set(clients)
+    for part, outcome in zip(judged.engine.paths, judged.replay.outcomes):
+        for one in outcome.of_clients(clients):
+            missing.discard(one.client)
+            yield part, one
+    if missing:
+        raise Refusal(USAGE, f"--story {min(missing)}: the captures have no connection of this client: say ADDRESS:PORT")

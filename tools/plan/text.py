@@ -219,13 +219,17 @@ def connection_json(answer, it):
         "opened_ns": at(answer, it.opened),
         "last_ns": at(answer, it.last),
         "server": it.server,
-        "how": "broken" if it.is_broken else "refused",
-        "at_ns": at(answer, it.at),
+        "how": "broken" if it.is_broken else "refused" if it.is_refused else "whole",
+        "at_ns": it.at and at(answer, it.at),
         "verdict": it.verdict,
         "cause": it.cause,
         "losing_data": it.is_losing_data,
         "ended": it.ended,
     }
+
+
+def changes_json(answer):
+    return [{**command, "at_ns": at(answer, command["at_ns"])} for command in answer.script.changes]
 
 
 def traffic_json(paths, traffic):
@@ -262,7 +266,7 @@ def json_of(paths, answer, search=None):
         found |= {"schedules": answer.schedules.number, "packets_otherwise": answer.schedules.others}
     return json.dumps(traffic_json(paths, answer.traffic) | found | {
         "timeout_s": answer.script.timeout_s,
-        "changes": [{**command, "at_ns": at(answer, command["at_ns"])} for command in answer.script.changes],
+        "changes": changes_json(answer),
         "by_the_change": [connection_json(answer, it) for it in answer.broken],
         "anyway": [connection_json(answer, it) for it in answer.anyway],
         "keeping_timeout_s": answer.keeping_s,
