@@ -46,7 +46,7 @@ class Connection:
     def see(self, number, packet):
         """Adds a record. Returns whether it concerns more than the farewell, so that data is lost if it isn't processed."""
         self.fin = not packet.opening() and (self.fin or bool(packet.flags & FIN))
-        in_the_middle = not self.fin and not packet.opening()
+        in_the_middle = not self.fin and not packet.opening() and not packet.flags & RST
         risky, self.data = packet.data > 0 or self.data or in_the_middle, packet.data > 0
         self.last = number, packet.moment
         return risky
@@ -60,20 +60,19 @@ class Connection:
     def is_whole(self):
         return self.server is not None and not self.broken
 
-    def go_on(self, e, packet):
-        """Notes whether an arrival ends the connection or opens it anew. Returns whether it carries RST or comes after the end."""
-        resets, opens = bool(packet.flags & RST), packet.opening()
-        over = resets or self.gone and not opens
-        ends = e["verdict"] == "process ended" or e["verdict"].startswith("drop")
-        self.gone = resets and ends or self.gone and not opens
+    def go_on(self, e, packet, stray):
+        """Notes whether an arrival, a stray or not, ends the connection or opens it anew. Returns whether it comes after the end."""
+        over = self.gone and not packet.opening()
+        ends = bool(packet.flags & RST) and e["verdict"] == "process ended" and not stray
+        self.gone = ends or over
         return over
 
     def take(self, e, wait, packet, risky):
         """Adds an arrival; `wait` is how long ago the server to which it may be forwarded lost the bucket. Returns whether it is a break
         that counts."""
-        over = self.go_on(e, packet)
         verb = e["verdict"].split()[0]
         stray = verb == "process" and e["because"] is not None
+        over = self.go_on(e, packet, stray)
         self.tally[verb] += 1
         self.tally["stray"] += stray
         if verb == "forward":
@@ -115,8 +114,9 @@ class Table:
                 owners[e["packet"]] = accepted.get(self.packets[e["packet"] - 1].flow)
             elif e["what"] == "arrive":
                 flow = self.packets[e["packet"] - 1].flow
-                self.need(e, flow, versions[e["packet"]], owners[e["packet"]], kept, retired_at)
-                self.arrive(e, flow, versions[e["packet"]])
+                wait, counts = self.arrive(e, flow, versions[e["packet"]])
+                third = self.need(e, counts, flow, versions[e["packet"]], owners[e["packet"]], kept, retired_at)
+                self.late += [wait] if counts and self.came_late(e, wait, third) else []
                 for holds in (held, kept):
                     if e["verdict"] == "accept":
                         holds[e["server"]][flow] = place
@@ -140,9 +140,14 @@ class Table:
     def arrive(self, e, flow, version):
         beyond = onward(self.fleet.entry(version, self.fleet.bucket(flow)), e["hop"])
         wait = max(0, e["clock"] - beyond[1]) if beyond else None
-        if self.found[flow].take(e, wait, self.packets[e["packet"] - 1], self.risky[e["packet"]]):
-            self.causes[e["because"]] += 1
-            self.late += [wait] if e["because"] == "chain-late" else []
+        counts = self.found[flow].take(e, wait, self.packets[e["packet"] - 1], self.risky[e["packet"]])
+        self.causes[e["because"]] += counts
+        return wait, counts
+
+    def came_late(self, e, wait, third):
+        """Whether a break that counts, with this third change or none, is one that a longer timeout mends: a packet that is refused."""
+        late = e["because"] == "chain-late" or e["because"] == "moved-thrice" and third is None
+        return late and e["verdict"].split()[0] in ("drop", "reset") and wait is not None and wait > self.fleet.timeout()
 
     def moves_of(self, flow, version):
         """The numbers of the changes up to this version that move the flow's bucket."""
@@ -156,21 +161,25 @@ class Table:
         left = [number for number in self.moves_of(flow, version) if at[number - 1] == server]
         return left[-1] if left and at[version] != server else None
 
-    def need(self, e, flow, version, owner, kept, retired_at):
-        """What an arrival needs: the server that a change took its bucket from, a later third change, or a server that has retired."""
+    def need(self, e, counts, flow, version, owner, kept, retired_at):
+        """What an arrival needs: the server that a change took its bucket from; if it is a break that counts, a later third change, which is
+        returned, or a server that has retired."""
         verb = e["verdict"].split()[0]
         if verb == "forward":
             number = self.moves_of(flow, version)[-1 - HOPS[e["hop"]]]
             self.longest(self.changes, number, e["clock"] - self.fleet.changes[number - 1][0], e, flow)
-        if e["because"] == "moved-thrice":
+        third = None
+        if counts and e["because"] == "moved-thrice":
             first = self.away_since(flow, owner[1], version)
             for number in [number for number in self.moves_of(flow, version) if first and number >= first][2:3]:
                 late = max(0, self.found[flow].last[1] - self.fleet.changes[number - 1][0]) + 1
                 self.longest(self.thirds, number, late, e, flow)
-        if e["because"] == "not-held" and owner and kept[owner[1]].get(flow) == owner[0]:
+                third = number
+        if counts and e["because"] == "not-held" and owner and kept[owner[1]].get(flow) == owner[0]:
             at = retired_at.get((owner[1], self.fleet.shard(flow)))
             if at is not None:
                 self.longest(self.retired, owner[1], max(0, e["clock"] - at), e, flow)
+        return third
 
     @staticmethod
     def longest(needs, number, time, e, flow):
@@ -323,6 +332,12 @@ def third_lines(table):
         yield f"moved-thrice changes {first} {second} {third} by {seconds(time)} for {endpoints(flow)[0]}"
 
 
+def after_lines(table):
+    after = [c.tally["over"] for c in table.connections if c.tally["over"]]
+    if after:
+        yield f"after-its-end packets {sum(after)} connections {len(after)}"
+
+
 def unsteered_lines(table):
     counts = Counter(p.reason for p in table.packets if not p.steerable)
     if counts:
@@ -384,6 +399,7 @@ def lines(table, texts, began, cut):
     if table.late:
         yield f"chain-late longest {seconds(max(table.late))} timeout_s {-(-max(table.late) // SECOND)}"
     yield from third_lines(table)
+    yield from after_lines(table)
     yield from unsteered_lines(table)
     if cut:
         yield f"note record {len(table.packets) + 1} cut short"

@@ -25,6 +25,7 @@ use Rattle.bm_connections.specs.declared.counters.Counters.{Counters}
 use Rattle.bm_connections.specs.declared.counts.CauseCount.{CauseCount}
 use Rattle.bm_connections.specs.declared.counts.CausePackets.{CausePackets}
 use Rattle.bm_connections.specs.declared.servers.Served.{Served}
+use Rattle.bm_connections.specs.AfterEnd.{packets_after_end}
 use Rattle.bm_connections.specs.Connections.{as_break, connections, counted_cause, one_more}
 use Rattle.bm_connections.specs.Counts.{all_causes, arrivals_at, causes_in, is_arrival_at, is_cause, occurs, packets_by}
 use Rattle.bm_connections.specs.Inside.Counters.{CanCountMore, HasCounted}
@@ -142,14 +143,20 @@ packets_few : (stage : Stage) (c : Cause) (past : List Event) → packets_by sta
 packets_few stage c [] = omega arith
 packets_few stage c (e ∷ past) = more_few _ _ (length past) (packets_few stage c past)
 
+after_end_few : (stage : Stage) (past : List Event) → packets_after_end stage past ≤ length past
+after_end_few stage [] = omega arith
+after_end_few stage (e ∷ past) = more_few _ _ (length past) (after_end_few stage past)
+
 -- one event more can be counted
 pub can_count_more : (stage : Stage) (past : List Event) (c : Counters) → suc (length past) < 2 ^ 64
-    → HasCounted stage past c → CanCountMore stage c
+    → HasCounted stage past c → CanCountMore c
 can_count_more stage past c few k = record {
   packets = λ x.
       let n = packets_few stage x past
       in subst (λ (m : ℕ). suc m < 2 ^ 64) (sym (k.packets.each x)) (omega (arith, n, few));
-  moves = k.late.stamps.moves;
+  after_end =
+      let n = after_end_few stage past
+      in subst (λ (m : ℕ). suc m < 2 ^ 64) (sym k.after_end) (omega (arith, n, few));
   loads = λ s. can_count past (load c.loads) s few k.loads;
   held = have_room stage past (count c.held.counts) few k.held.counts;
 }

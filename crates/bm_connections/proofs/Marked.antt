@@ -15,7 +15,7 @@ use Rattle.bm_connections.specs.declared.connection.Ending.{Ending}
 use Rattle.bm_connections.specs.declared.connection.Sight.{Sight}
 use Rattle.bm_core.specs.Past.{is_of, steerable}
 use Rattle.bm_connections.specs.declared.connection.Ending.TheVariants.{Open, Fin}
-use Rattle.bm_connections.specs.Endings.{carries_data, ending_seen, has_since_opening, is_segment_with, of_packet, segment_at}
+use Rattle.bm_connections.specs.Endings.{carries_data, ending_seen, has_since_opening, is_at_an_end, is_segment_with, of_packet, segment_at}
 use Rattle.bm_connections.specs.Endings as endings
 use Rattle.bm_connections.specs.Inside.Marks.{mark_of, marks_by}
 use Rattle.bm_connections.specs.Inside.Rows.{ending_after, has_data_at, is_risky, is_unfinished}
@@ -142,12 +142,12 @@ risky_more records r s body =
     || option_map_or (λ before. carries_data before) (segment_at records (last_seen records t.flow).number) false)
     false body
     in let middle = of_body r s
-    (λ t. not (is_opening t) && not (has_since_opening (has_flag FIN) (r ∷ records) t.flow)) false body
+    (λ t. not (is_at_an_end t) && not (has_since_opening (has_flag FIN) (r ∷ records) t.flow)) false body
     in let unfinished : is_unfinished (ending_after s (ending_seen records s.flow))
     ≡ not (has_since_opening (has_flag FIN) (r ∷ records) s.flow) =
     ap (λ (e : Ending). is_unfinished e) (sym (ending_more records r s body))
     ∙ unfinished_is (has_since_opening (has_flag FIN) (r ∷ records) s.flow)
-    in λ i. loaded i || (ap (λ b. not (is_opening s) && b) unfinished ∙ middle) i
+    in λ i. loaded i || (ap (λ b. not (is_at_an_end s) && b) unfinished ∙ middle) i
 
 -- the first packet of a flow
 pub first_risky : (records : List Record) (r : Record) (s : Segment) → r.body ≡ Steerable s

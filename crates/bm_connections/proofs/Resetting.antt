@@ -1,6 +1,6 @@
 -- The connections that an RST ended, and which breaks count.
 use Rattle.std.proofs.Common.{◌≡◌, ℕ, Bool, true, false, ◌&&◌, ◌||◌, not, List, ◌∷◌}
-use Rattle.std.proofs.Common.{Option, Some, None, is_some, refl, sym, ◌∙◌}
+use Rattle.std.proofs.Common.{Option, Some, None, is_some, refl, sym, ap, ◌∙◌}
 use Rattle.std.specs.Prelude.{if◌then◌else◌}
 use Rattle.std.specs.Option.{option_map_or}
 use Rattle.bm_base.specs.declared.flow.Flow.{Flow}
@@ -10,12 +10,12 @@ use Rattle.bm_core.specs.declared.events.Cause.{Cause}
 use Rattle.bm_core.specs.declared.events.Event.{Event}
 use Rattle.bm_core.specs.declared.events.Stage.{Stage}
 use Rattle.bm_core.specs.declared.events.Verdict.{Verdict}
+use Rattle.bm_core.specs.declared.events.Verdict.TheVariants.{Accept, Process, Forward, Reset, Drop}
 use Rattle.bm_core.specs.declared.events.What.{What}
 use Rattle.bm_core.specs.declared.events.What.TheVariants.{Publish, Switch, Steer, Lose, Arrive, Close, Retire, Sync}
-use Rattle.bm_core.specs.Causes.{cause}
+use Rattle.bm_core.specs.Causes.{cause, is_process}
 use Rattle.bm_core.specs.Past.{ends, segment_of}
 use Rattle.bm_trace.specs.CauseOf.{is_break}
-use Rattle.bm_trace.specs.Totals.{is_drop}
 use Rattle.bm_connections.specs.declared.flow_set.Membership.{Membership}
 use Rattle.bm_connections.specs.declared.resets.Resets.{Resets}
 use Rattle.bm_connections.specs.Connections.{breaks_nothing, counted_cause, is_after_end, is_beginning, is_end, is_ended}
@@ -57,43 +57,57 @@ choose true resets begins end q before = refl
 choose false true begins end q before = refl
 choose false false begins end q before = refl
 
-by_segment : (segment : Option Segment) (verdict : Verdict) (q : Flow) (before : Bool)
-    → (is_segment_with (has_flag RST) segment q && (ends verdict || is_drop verdict)
+-- a server that ends a connection processes the packet, so it is a break just if it is a stray
+ends_own : (verdict : Verdict) (broke : Bool)
+    → (ends verdict && not (is_process verdict && broke)) ≡ (ends verdict && not broke)
+ends_own Accept broke = refl
+ends_own (Process taken) broke = refl
+ends_own (Forward to) broke = refl
+ends_own (Reset why) broke = refl
+ends_own (Drop why) broke = refl
+
+by_segment : (segment : Option Segment) (verdict : Verdict) (broke : Bool) (q : Flow) (before : Bool)
+    → (is_segment_with (has_flag RST) segment q && (ends verdict && not (is_process verdict && broke))
     || not (is_segment_with is_opening segment q) && before)
-    ≡ changed (reset_by segment verdict) q before
-by_segment None verdict q before = refl
-by_segment (Some s) verdict q before =
-    by_flags (same_flow s.flow q) (has_flag RST s) (is_opening s) (ends verdict || is_drop verdict) before (reset_stays s)
-    ∙ choose (is_opening s) (has_flag RST s && (ends verdict || is_drop verdict))
+    ≡ changed (reset_by segment verdict broke) q before
+by_segment None verdict broke q before = refl
+by_segment (Some s) verdict broke q before =
+    (λ i. (same_flow s.flow q && has_flag RST s) && ends_own verdict broke i
+    || not (same_flow s.flow q && is_opening s) && before)
+    ∙ by_flags (same_flow s.flow q) (has_flag RST s) (is_opening s) (ends verdict && not broke) before (reset_stays s)
+    ∙ choose (is_opening s) (has_flag RST s && (ends verdict && not broke))
     (record { flow = s.flow; member = false }) (record { flow = s.flow; member = true }) q before
 
-reset_changed : (stage : Stage) (q : Flow) (what : What) (before : Bool)
-    → (is_end stage q what || not (is_beginning stage q what) && before) ≡ changed (reset_of stage what) q before
-reset_changed stage q (Arrive k hop server verdict) before = by_segment (segment_of stage k) verdict q before
-reset_changed stage q (Publish v) before = refl
-reset_changed stage q (Switch m v) before = refl
-reset_changed stage q (Steer k m) before = refl
-reset_changed stage q (Lose k hop) before = refl
-reset_changed stage q (Close server flow closed) before = refl
-reset_changed stage q (Retire server shard at result) before = refl
-reset_changed stage q Sync before = refl
+reset_changed : (stage : Stage) (past : List Event) (q : Flow) (what : What) (before : Bool)
+    → (is_end stage q past what || not (is_beginning stage q what) && before)
+    ≡ changed (reset_of stage what (is_break stage past what)) q before
+reset_changed stage past q (Arrive k hop server verdict) before =
+    by_segment (segment_of stage k) verdict (is_break stage past (Arrive k hop server verdict)) q before
+reset_changed stage past q (Publish v) before = refl
+reset_changed stage past q (Switch m v) before = refl
+reset_changed stage past q (Steer k m) before = refl
+reset_changed stage past q (Lose k hop) before = refl
+reset_changed stage past q (Close server flow closed) before = refl
+reset_changed stage past q (Retire server shard at result) before = refl
+reset_changed stage past q Sync before = refl
 
 pub resets_more : (stage : Stage) (past : List Event) (e : Event) (old new : Resets) (change : Option Membership)
-    → change ≡ reset_of stage e.what
+    (broke : Bool)
+    → change ≡ reset_of stage e.what broke → broke ≡ is_break stage past e.what
     → ((q : Flow) → is_in new.ended q ≡ changed change q (is_in old.ended q))
     → KnowsResets stage past old → KnowsResets stage (e ∷ past) new
-resets_more stage past e old new change is put k = record {
-  each = λ q. put q ∙ (λ i. changed (is i) q (k.each q i)) ∙ sym (reset_changed stage q e.what (is_ended stage q past));
+resets_more stage past e old new change broke is by put k = record {
+  each = λ q. put q ∙ (λ i. changed ((is ∙ ap (reset_of stage e.what) by) i) q (k.each q i))
+      ∙ sym (reset_changed stage past q e.what (is_ended stage q past));
 }
 
 -- WHICH BREAKS COUNT
 
 pub after_end_is : (stage : Stage) (past : List Event) (k : ℕ) (s : Segment) (resets : Resets) (result : Bool)
     → segment_of stage k ≡ Some s → result ≡ follows_end resets s → KnowsResets stage past resets
-    → result ≡ option_map_or (λ t. has_flag RST t || not (is_opening t) && is_ended stage t.flow past)
-    (segment_of stage k) false
+    → result ≡ option_map_or (λ t. not (is_opening t) && is_ended stage t.flow past) (segment_of stage k) false
 after_end_is stage past k s resets result seg is known =
-    is ∙ (λ i. has_flag RST s || not (is_opening s) && known.each s.flow i) ∙ rw seg refl
+    is ∙ (λ i. not (is_opening s) && known.each s.flow i) ∙ rw seg refl
 
 -- a cause counts unless its packet comes after its connection's own end
 if_counted : (after broke late : Bool) (found : Option Cause) → is_some found ≡ broke → late ≡ (broke && after)

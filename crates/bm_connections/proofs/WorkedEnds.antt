@@ -1,21 +1,24 @@
--- How connections end, worked on the events of small replays: an RST that comes twice, one that is ignored, a port that
--- is used again, a `close`, and what is lost with a break.
-use Rattle.std.proofs.Common.{◌≡◌, ℕ, true, false, List, [], ◌∷◌, None, is_some, reverse, refl}
+-- How connections end, worked on the events of small replays: an RST that comes twice, one that is ignored, dropped or a
+-- stray, a port that is used again, a `close`, and what is lost with a break.
+use Rattle.std.proofs.Common.{◌≡◌, ◌^◌, ℕ, true, false, List, [], ◌∷◌, ◌++◌, None, is_some, reverse, refl}
 use Rattle.bm_base.specs.declared.flow.Segment.{Segment}
 use Rattle.bm_base.specs.declared.label.Hop.TheVariants.{Direct}
 use Rattle.bm_base.specs.declared.receive.Taken.TheVariants.{Advance, Ended, Outside}
 use Rattle.bm_base.specs.Segments.{has_flag, is_opening}
+use Rattle.bm_table.specs.declared.plan.Kind.TheVariants.{Shift}
 use Rattle.bm_table.specs.Settings.{plain_setting}
 use Rattle.bm_hash.specs.Buckets.{flow_octets, fnv_step, fnv_1a, flow_hash}
-use Rattle.bm_core.specs.declared.events.Cause.TheVariants.{NotHeld}
+use Rattle.bm_core.specs.declared.events.Cause.TheVariants.{ChainLate, NotHeld}
 use Rattle.bm_core.specs.declared.events.Event.{Event}
 use Rattle.bm_core.specs.declared.events.Stage.{Stage}
 use Rattle.bm_core.specs.declared.events.Verdict.TheVariants.{Accept, Process, Reset, Drop}
 use Rattle.bm_core.specs.declared.events.What.TheVariants.{Close}
-use Rattle.bm_core.specs.declared.events.Why.TheVariants.{NoPrevious, Silent}
-use Rattle.bm_core.proofs.Worked.{arrive, at, data_of, fin, flow_from, record_at, rst, server, stage_of, steer, syn}
+use Rattle.bm_core.specs.declared.events.Why.TheVariants.{ChainExpired, NoPrevious, Silent}
+use Rattle.bm_core.proofs.Worked.{arrive, at, change_at, data_of, fin, flow_from, move, publish, record_at, rst, server}
+use Rattle.bm_core.proofs.Worked.{stage_of, steer, switch, syn}
 use Rattle.bm_connections.specs.declared.connection.Connection.{Connection}
 use Rattle.bm_connections.specs.declared.connection.Ending.TheVariants.{Open, Fin, Reset as ByReset, Close as ByClose}
+use Rattle.bm_connections.specs.AfterEnd.{packets_after_end}
 use Rattle.bm_connections.specs.Connections.{connection}
 use Rattle.bm_connections.specs.Counts.{packets_by}
 use Rattle.bm_connections.specs.Seen.{records_of}
@@ -81,6 +84,63 @@ not_ended : (told ignored (steer 1 1 0 ∷ arrive 2 1 Direct 1 Accept
     ∷ steer 1001 2 0 ∷ arrive 1002 2 Direct 1 (Process Outside) ∷ [])).ending ≡ Open
 unfolding has_flag is_opening flow_octets fnv_step fnv_1a flow_hash
 not_ended = refl
+
+-- they are all that is told of apart
+doubled_apart : packets_after_end doubled (reverse doubled_events) ≡ 2
+unfolding has_flag is_opening flow_octets fnv_step fnv_1a flow_hash
+doubled_apart = refl
+
+-- the bucket moves, and an RST that comes later than the timeout is dropped: server 1 never gets it
+abbrev given_up : Stage
+given_up =
+    stage_of (record plain_setting { timeout = 10 ^ 9 }) (change_at 500 Shift (move 4 2 ∷ []) ∷ []) []
+    (record_at 0 (syn 1000 100) ∷ record_at 3000000000 (rst 1000 101) ∷ record_at 3000001000 (data_of 1000 101 10) ∷ [])
+
+abbrev first_reset : List Event
+first_reset =
+    steer 1 1 0 ∷ arrive 2 1 Direct 1 Accept ∷ publish 501 1 ∷ switch 502 0 1
+    ∷ steer 3000000001 2 0 ∷ arrive 3000000002 2 Direct 2 (Drop Silent) ∷ []
+
+-- that is a break, but of the farewell alone
+first_reset_told : ((told given_up first_reset).ending ≡ Open)
+    × (is_some (told given_up first_reset).broken ≡ true)
+    × ((told given_up first_reset).losing_data ≡ false)
+    × ((told given_up first_reset).tally.after_its_end ≡ 0)
+unfolding has_flag is_opening flow_octets fnv_step fnv_1a flow_hash
+first_reset_told = (refl, refl, refl, refl)
+
+abbrev given_up_events : List Event
+given_up_events = first_reset ++ steer 3000001001 3 0 ∷ arrive 3000001002 3 Direct 2 (Reset ChainExpired) ∷ []
+
+-- so it hides nothing of what comes after it
+given_up_told : ((told given_up given_up_events).losing_data ≡ true)
+    × ((told given_up given_up_events).tally.after_its_end ≡ 0)
+    × (packets_by given_up ChainLate (reverse given_up_events) ≡ 2)
+unfolding has_flag is_opening flow_octets fnv_step fnv_1a flow_hash
+given_up_told = (refl, refl, refl)
+
+-- a port is used again at server 2 and the bucket comes home: server 1 takes an RST for the connection that it holds
+abbrev elsewhere : Stage
+elsewhere =
+    stage_of (record plain_setting { timeout = 10 ^ 9 })
+    (change_at 500 Shift (move 4 2 ∷ []) ∷ change_at 1500 Shift (move 4 1 ∷ []) ∷ []) []
+    (record_at 0 (syn 1000 100) ∷ record_at 1000 (syn 1000 900) ∷ record_at 2000 (rst 1000 101)
+    ∷ record_at 3000000000 (data_of 1000 901 10) ∷ [])
+
+abbrev elsewhere_events : List Event
+elsewhere_events =
+    steer 1 1 0 ∷ arrive 2 1 Direct 1 Accept ∷ publish 501 1 ∷ switch 502 0 1
+    ∷ steer 1001 2 0 ∷ arrive 1002 2 Direct 2 Accept ∷ publish 1501 2 ∷ switch 1502 0 2
+    ∷ steer 2001 3 0 ∷ arrive 2002 3 Direct 1 (Process Ended)
+    ∷ steer 3000000001 4 0 ∷ arrive 3000000002 4 Direct 1 (Reset ChainExpired) ∷ []
+
+-- the stray ends nothing, so the data that is reset later counts
+elsewhere_told : ((told elsewhere elsewhere_events).ending ≡ Open)
+    × ((told elsewhere elsewhere_events).tally.stray ≡ 1)
+    × ((told elsewhere elsewhere_events).tally.after_its_end ≡ 0)
+    × (packets_by elsewhere ChainLate (reverse elsewhere_events) ≡ 1)
+unfolding has_flag is_opening flow_octets fnv_step fnv_1a flow_hash
+elsewhere_told = (refl, refl, refl, refl)
 
 -- a port is used again after an RST
 abbrev again : Stage

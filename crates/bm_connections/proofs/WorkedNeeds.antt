@@ -19,6 +19,7 @@ use Rattle.bm_core.proofs.Worked.{server, flow_from, syn, data_of, rst, record_a
 use Rattle.bm_core.proofs.Worked.{switch, steer, arrive, retire}
 use Rattle.bm_core.proofs.WorkedMoves.{moved_twice}
 use Rattle.bm_connections.specs.declared.needs.Need.{Need}
+use Rattle.bm_connections.specs.Late.{longest_wait}
 use Rattle.bm_connections.specs.Needed.{all_changes, longest_of_server}
 use Rattle.bm_connections.specs.Thrice.{all_thirds}
 
@@ -166,9 +167,11 @@ named = steer 1 1 0
     ∷ arrive 3000000002 2 Direct 1 (Reset ChainExpired)
     ∷ []
 
+-- so it counts among those that came too late
 named_thirds : (cause_of still_named named ≡ Some MovedThrice) × (all_thirds still_named (reverse named) ≡ [])
+    × (longest_wait still_named (reverse named) ≡ Some 2999999302)
 unfolding has_flag is_opening flow_octets fnv_step fnv_1a flow_hash
-named_thirds = (refl, refl)
+named_thirds = (refl, refl, refl)
 
 -- RETIREMENTS
 

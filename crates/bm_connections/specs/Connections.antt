@@ -32,11 +32,13 @@ use Rattle.bm_connections.specs.Waits.{wait}
 
 -- WHICH BREAKS COUNT
 
--- an RST of the flow arrives, and its server ends the connection, or drops it: the client is gone
-abbrev pub is_end : Stage → Flow → What → Bool
-is_end stage f (Arrive k hop server verdict) =
-    is_segment_with (has_flag RST) (segment_of stage k) f && (ends verdict || is_drop verdict)
-is_end stage f _ = false
+-- an RST of the flow arrives, and the server that takes it ends the connection. It isn't a stray:
+-- that one ends another connection, with the same addresses and ports, that its server holds
+abbrev pub is_end : Stage → Flow → List Event → What → Bool
+is_end stage f past (Arrive k hop server verdict) =
+    is_segment_with (has_flag RST) (segment_of stage k) f
+    && (ends verdict && not (is_stray stage past (Arrive k hop server verdict)))
+is_end stage f past _ = false
 
 -- a packet arrives that opens the flow
 abbrev pub is_beginning : Stage → Flow → What → Bool
@@ -48,13 +50,12 @@ is_beginning stage f _ = false
 abbrev pub is_ended : Stage → Flow → List Event → Bool
 is_ended stage f [] = false
 is_ended stage f (e ∷ past) =
-    is_end stage f e.what || not (is_beginning stage f e.what) && is_ended stage f past
+    is_end stage f past e.what || not (is_beginning stage f e.what) && is_ended stage f past
 
--- a packet arrives that carries RST, or doesn't open its flow after an RST ended it
+-- a packet arrives that doesn't open its flow, after an RST ended the flow's connection
 abbrev pub is_after_end : Stage → List Event → What → Bool
 is_after_end stage past (Arrive k hop server verdict) =
-    option_map_or
-    (λ s. has_flag RST s || not (is_opening s) && is_ended stage s.flow past)
+    option_map_or (λ s. not (is_opening s) && is_ended stage s.flow past)
     (segment_of stage k) false
 is_after_end stage past _ = false
 

@@ -4,7 +4,7 @@ use Rattle.std.specs.Prelude.{ℕ, zero, suc, ◌+◌, Bool, false, ◌&&◌, �
 use Rattle.std.specs.Prelude.{if◌then◌else◌, List, [], ◌∷◌, length, Option, Some, None, reverse}
 use Rattle.std.specs.Prelude.{slice_get}
 use Rattle.std.specs.Option.{option_map_or}
-use Rattle.bm_base.specs.Segments.{FIN, SYN, has_flag, is_opening, same_flow}
+use Rattle.bm_base.specs.Segments.{FIN, RST, SYN, has_flag, is_opening, same_flow}
 use Rattle.bm_base.specs.declared.capture.Record.{Record}
 use Rattle.bm_base.specs.declared.flow.Flow.{Flow}
 use Rattle.bm_base.specs.declared.flow.Segment.{Segment}
@@ -64,12 +64,16 @@ is_with_data r records =
     (segment_at records (last_seen records s.flow).number) false)
     (steerable (Some r)) false
 
--- the record is a packet in the middle of its connection: it doesn't open one, and no FIN of the
--- connection has come, its own included
+-- the segment opens a connection or gives one up
+abbrev pub is_at_an_end : Segment → Bool
+is_at_an_end s = is_opening s || has_flag RST s
+
+-- the record is a packet in the middle of its connection: it neither opens one nor carries RST, and
+-- no FIN of the connection has come, its own included
 abbrev pub is_in_the_middle : Record → List Record → Bool
 is_in_the_middle r records =
     option_map_or
-    (λ s. not (is_opening s) && not (has_since_opening (has_flag FIN) (r ∷ records) s.flow))
+    (λ s. not (is_at_an_end s) && not (has_since_opening (has_flag FIN) (r ∷ records) s.flow))
     (steerable (Some r)) false
 
 -- data is lost if the packet isn't processed: it concerns more than the farewell

@@ -4,7 +4,6 @@ pub mod Copies
 pub mod Counters
 pub mod FlowSets
 pub mod Held
-pub mod Late
 pub mod Loads
 pub mod Marks
 pub mod Needs

@@ -2,13 +2,14 @@ pub mod Seen
 pub mod Endings
 pub mod Waits
 pub mod Connections
+pub mod AfterEnd
 pub mod Base
 pub mod Counts
 pub mod Replies
-pub mod Late
 pub mod Needed
 pub mod Leaves
 pub mod Thrice
+pub mod Late
 pub mod Laws
 pub mod Times
 pub mod OpenEnds

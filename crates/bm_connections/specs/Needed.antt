@@ -19,7 +19,7 @@ use Rattle.bm_core.specs.declared.events.Stage.{Stage}
 use Rattle.bm_core.specs.declared.events.Verdict.TheVariants.{Forward}
 use Rattle.bm_core.specs.declared.events.What.{What}
 use Rattle.bm_core.specs.declared.events.What.TheVariants.{Arrive, Retire, Sync}
-use Rattle.bm_core.specs.Causes.{cause, is_holding}
+use Rattle.bm_core.specs.Causes.{is_holding}
 use Rattle.bm_core.specs.Past.{Accepted, bucket, held, is_done, label_of, owner, segment_of, shard}
 use Rattle.bm_table.specs.Planned.{Planned}
 use Rattle.bm_table.specs.Tables.{moves, moves_next, same_server}
@@ -27,6 +27,7 @@ use Rattle.bm_connections.specs.declared.needs.Need.{Need}
 use Rattle.bm_connections.specs.declared.needs.NeedOf.{NeedOf}
 use Rattle.bm_connections.specs.declared.needed.NeededChange.{NeededChange}
 use Rattle.bm_connections.specs.declared.needed.NeededServer.{NeededServer}
+use Rattle.bm_connections.specs.Connections.{counted_cause}
 use Rattle.bm_connections.specs.Counts.{is_cause}
 use Rattle.bm_connections.specs.Waits.{wait}
 
@@ -156,18 +157,21 @@ unheld_need stage past clock (Some s) (Some a) =
     else None
 unheld_need stage past clock _ _ = None
 
--- the packet that arrives isn't held because of a retirement: how long after it
-abbrev pub server_need : Stage → List Event → Moment → What → Option NeedOf
-server_need stage past clock (Arrive k hop server verdict) =
-    if is_cause NotHeld (cause stage past clock.0 (Arrive k hop server verdict))
-    then unheld_need stage past clock (segment_of stage k) (owner stage past k)
-    else None
-server_need stage past clock _ = None
+-- the same of the packet of an arrival
+abbrev pub need_of_unheld : Stage → List Event → Moment → What → Option NeedOf
+need_of_unheld stage past clock (Arrive k hop server verdict) =
+    unheld_need stage past clock (segment_of stage k) (owner stage past k)
+need_of_unheld stage past clock _ = None
+
+-- a break that counts has the cause not-held because of a retirement: how long after it
+abbrev pub server_need : Stage → List Event → Event → Option NeedOf
+server_need stage past e =
+    if is_cause NotHeld (counted_cause stage past e)
+    then need_of_unheld stage past e.clock e.what else None
 
 -- the longest need of the server with this number
 abbrev pub longest_of_server : Stage → List Event → ℕ → Option Need
-longest_of_server stage past n =
-    longest_need (λ before e. server_need stage before e.clock e.what) n past
+longest_of_server stage past n = longest_need (server_need stage) n past
 
 abbrev pub as_server : ServerId → Option Need → List NeededServer
 as_server s None = []

@@ -14,13 +14,13 @@ use Rattle.bm_core.specs.declared.events.History.{History}
 use Rattle.bm_core.specs.declared.events.Stage.{Stage}
 use Rattle.bm_core.specs.declared.events.What.{What}
 use Rattle.bm_core.specs.declared.events.What.TheVariants.{Arrive}
-use Rattle.bm_core.specs.Causes.{cause}
 use Rattle.bm_core.specs.Past.{Accepted, bucket, label_of, owner, segment_of}
 use Rattle.bm_table.specs.Planned.{Planned}
 use Rattle.bm_table.specs.Tables.{change_moment, moves, next_change}
 use Rattle.bm_connections.specs.declared.needs.Need.{Need}
 use Rattle.bm_connections.specs.declared.needs.NeedOf.{NeedOf}
 use Rattle.bm_connections.specs.declared.thrice.MovedThrice.{MovedThrice as Moved}
+use Rattle.bm_connections.specs.Connections.{counted_cause}
 use Rattle.bm_connections.specs.Counts.{is_cause}
 use Rattle.bm_connections.specs.Leaves.{away_since}
 use Rattle.bm_connections.specs.Needed.{longest_need, need_of_change, nth_move}
@@ -61,20 +61,23 @@ third_need stage clock (Some s) (Some a) (Some l) =
     need_of_third stage s.flow clock (third_move stage s.flow a.server l.version.0)
 third_need stage clock _ _ _ = None
 
--- the packet that arrives has the cause moved-thrice: how much later the third change must come.
--- The cause counts the moves since the Accept, also those before the bucket came home, so such a
--- packet may have no third change.
-abbrev pub thrice_need : Stage → List Event → Moment → What → Option NeedOf
-thrice_need stage past clock (Arrive k hop server verdict) =
-    if is_cause MovedThrice (cause stage past clock.0 (Arrive k hop server verdict))
-    then third_need stage clock (segment_of stage k) (owner stage past k) (label_of stage past k)
-    else None
-thrice_need stage past clock _ = None
+-- the same of the packet of an arrival
+abbrev pub need_of_arrival : Stage → List Event → Moment → What → Option NeedOf
+need_of_arrival stage past clock (Arrive k hop server verdict) =
+    third_need stage clock (segment_of stage k) (owner stage past k) (label_of stage past k)
+need_of_arrival stage past clock _ = None
+
+-- a break that counts has the cause moved-thrice: how much later the third change must come. The
+-- cause counts the moves since the Accept, also those before the bucket came home, so such a packet
+-- may have no third change.
+abbrev pub thrice_need : Stage → List Event → Event → Option NeedOf
+thrice_need stage past e =
+    if is_cause MovedThrice (counted_cause stage past e)
+    then need_of_arrival stage past e.clock e.what else None
 
 -- the longest delay of change n
 abbrev pub longest_of_third : Stage → List Event → ℕ → Option Need
-longest_of_third stage past n =
-    longest_need (λ before e. thrice_need stage before e.clock e.what) n past
+longest_of_third stage past n = longest_need (thrice_need stage) n past
 
 -- THE CHANGES
 

@@ -1,23 +1,28 @@
-//! The pass over the events that finds the longest needs.
+//! The pass over the events that finds the longest needs, and the longest wait of the packets that
+//! came too late.
 ghost use Rattle.std.specs.Prelude.{◌≡◌, ◌∷◌, [], List, length, reverse, OnOk, IfOk};
-ghost use Rattle.bm_core.specs.Causes as causes;
 ghost use Rattle.bm_core.specs.Runs.{IsRun};
 ghost use Rattle.bm_core.specs.declared.events.Event.{Event};
 ghost use Rattle.bm_state.specs.Moves.{AreMoves};
 ghost use Rattle.bm_trace.specs.Ranges.{HasRanges};
 ghost use Rattle.bm_trace.specs.Swept.{AreCauses};
+ghost use Rattle.bm_connections.specs.Connections.{counted_cause};
 
 use crate::followed::Followed;
+use crate::late::longest_after;
 use crate::needs::LongestNeeds;
+use crate::resets::Resets;
 use bm_base::Memory;
 use bm_core::{Cause, Event, History, Stage};
 use bm_trace::CauseList;
 use std::alloc::Global;
 
-/// The longest needs of all kinds, after some events.
+/// The longest needs of all kinds, and the longest wait of a packet that came too late, after some
+/// events.
 #[derive(Drop)]
 pub(crate) struct AllNeeds {
     pub(crate) followed: Followed,
+    pub(crate) late: Option<u64>,
     pub(crate) changes: LongestNeeds,
     pub(crate) thirds: LongestNeeds,
     pub(crate) servers: LongestNeeds,
@@ -32,13 +37,14 @@ impl AllNeeds {
     {
         Ok(AllNeeds {
             followed: Followed::new(alloc, stage)?,
+            late: None,
             changes: LongestNeeds::new(alloc),
             thirds: LongestNeeds::new(alloc),
             servers: LongestNeeds::new(alloc),
         })
     }
 
-    /// Records the event that comes next, after this many events, which has this cause.
+    /// Records the event that comes next, after this many events, whose cause is this if it counts.
     fn observe(
         &mut self,
         alloc: Global,
@@ -51,7 +57,7 @@ impl AllNeeds {
         requires moves { AreMoves stage.now.script.plan self.old.followed.stamps.moves }
         requires room { HasRoom self.old.followed.last }
         ensures { (past : List Event) → place ≡ length past
-            → cause ≡ causes.cause stage.now past event.now.clock.0 event.now.what
+            → cause ≡ counted_cause stage.now past event.now
             → HasNeeds stage.now past self.old
             → OnOk result (HasNeeds stage.now (event.now ∷ past) self.new) }
     {
@@ -59,6 +65,9 @@ impl AllNeeds {
         let change = followed.change_need(stage, event);
         let third = followed.thrice_need(stage, event, cause);
         let server = followed.server_need(stage, event, cause);
+        let late = followed.came_late(stage, event, cause, third);
+        let wait = followed.stamps.wait(stage, event);
+        self.late = longest_after(self.late, late, wait);
         self.changes.observe(change)?;
         self.thirds.observe(third)?;
         self.servers.observe(server)?;
@@ -72,10 +81,14 @@ impl AllNeeds {
         requires causes { AreCauses h.now causes.now }
         ensures { IfOk result (HasNeeds h.now.stage (reverse h.now.events)) }
     {
-        let mut all = AllNeeds::new(alloc, &h.stage)?;
         let events = h.events.items();
+        let mut resets = Resets::new(alloc);
+        let mut all = AllNeeds::new(alloc, &h.stage)?;
         for (place, event) in events.iter().enumerate() {
-            all.observe(alloc, &h.stage, place, event, causes.at(place))?;
+            let found = causes.at(place);
+            let cause = resets.counted(&h.stage, event, found);
+            all.observe(alloc, &h.stage, place, event, cause)?;
+            resets.observe(&h.stage, event, found)?;
         }
         Ok(all)
     }

@@ -7,7 +7,7 @@ ghost use Rattle.bm_connections.specs.Inside.Rows as kept;
 use crate::connection::{Connection, Ending};
 use crate::flow_set::FlowSet;
 use crate::resets::Resets;
-use bm_base::flags::{FIN, SYN};
+use bm_base::flags::{FIN, RST, SYN};
 use bm_base::{Body, Record, Segment, is_opening};
 
 /// How a connection ends by its records after another segment of it.
@@ -53,12 +53,19 @@ pub(crate) fn has_data_at(records: &[Record], number: u32) -> bool
     }
 }
 
-/// Whether the segment is in the middle of a connection that ended so before it: it doesn't open
-/// one, and no FIN has come, its own included.
+/// Whether the segment opens a connection or gives one up.
+fn is_at_an_end(segment: &Segment) -> bool
+    ensures { result ≡ spec.is_at_an_end segment.now }
+{
+    is_opening(segment) || segment.has(RST)
+}
+
+/// Whether the segment is in the middle of a connection that ended so before it: it neither opens
+/// one nor carries RST, and no FIN has come, its own included.
 fn is_in_the_middle(segment: &Segment, before: Ending) -> bool
     ensures { result ≡ kept.is_in_the_middle segment.now before }
 {
-    !is_opening(segment) && !matches!(ending_after(segment, before), Ending::Fin)
+    !is_at_an_end(segment) && !matches!(ending_after(segment, before), Ending::Fin)
 }
 
 /// Whether the segment concerns more than the farewell of its connection, if that ended so before

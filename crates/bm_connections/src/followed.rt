@@ -1,7 +1,6 @@
 //! What packets need, by what the events before them say.
 ghost use Rattle.std.specs.Prelude.{◌≡◌, ◌∷◌, ◌<◌, [], List, length, OnOk, IfOk, Some, None};
 ghost use Rattle.std.specs.Prelude.{if◌then◌else◌};
-ghost use Rattle.bm_core.specs.Causes as causes;
 ghost use Rattle.bm_core.specs.Past.{bucket, label_of, owner, segment_of};
 ghost use Rattle.bm_core.specs.declared.events.Cause.TheVariants.{MovedThrice as Thrice};
 ghost use Rattle.bm_core.specs.declared.events.Cause.TheVariants.{NotHeld as Unheld};
@@ -9,11 +8,14 @@ ghost use Rattle.bm_core.specs.declared.events.Event.{Event};
 ghost use Rattle.bm_state.specs.Moves.{AreMoves};
 ghost use Rattle.bm_table.specs.Tables as tables;
 ghost use Rattle.bm_trace.specs.Ranges.{HasRanges};
+ghost use Rattle.bm_connections.specs.Connections.{counted_cause};
+ghost use Rattle.bm_connections.specs.Late as late;
 ghost use Rattle.bm_connections.specs.Needed as needed;
 ghost use Rattle.bm_connections.specs.Thrice as thrice;
 
 use crate::counts::is_cause;
 use crate::last_seen::LastSeen;
+use crate::late::{is_of_timeout, is_refused};
 use crate::moved::{moved_by, third_move};
 use crate::needs::{Need, NeedOf};
 use crate::stamps::Stamps;
@@ -156,8 +158,23 @@ impl Followed {
         Some(need_of(before + 1, time, clock, flow))
     }
 
+    /// The same of the packet of an arrival.
+    fn need_of_arrival(&self, stage: &Stage, event: &Event) -> Option<NeedOf>
+        requires ranges { HasRanges stage.now }
+        requires moves { AreMoves stage.now.script.plan self.now.stamps.moves }
+        requires room { HasRoom self.now.last }
+        ensures { (past : List Event) → KnowsCourse stage.now past self.now
+            → result ≡ thrice.need_of_arrival stage.now past event.now.clock event.now.what }
+    {
+        match event.what {
+            What::Arrive { packet, .. } => self.third_need(stage, event.clock, packet),
+            _ => None,
+        }
+    }
+
     /// How much later the third change must come that moved the bucket of the packet of the event
-    /// that comes next, which has this cause, since the bucket left the owner's server.
+    /// that comes next, since the bucket left the owner's server. The event's cause is this if it
+    /// counts.
     pub(crate) fn thrice_need(
         &self,
         stage: &Stage,
@@ -168,14 +185,13 @@ impl Followed {
         requires moves { AreMoves stage.now.script.plan self.now.stamps.moves }
         requires room { HasRoom self.now.last }
         ensures { (past : List Event) → KnowsCourse stage.now past self.now
-            → cause ≡ causes.cause stage.now past event.now.clock.0 event.now.what
-            → result ≡ thrice.thrice_need stage.now past event.now.clock event.now.what }
+            → cause ≡ counted_cause stage.now past event.now
+            → result ≡ thrice.thrice_need stage.now past event.now }
     {
-        match event.what {
-            What::Arrive { packet, .. } if is_cause(Cause::MovedThrice, cause) => {
-                self.third_need(stage, event.clock, packet)
-            }
-            _ => None,
+        if is_cause(Cause::MovedThrice, cause) {
+            self.need_of_arrival(stage, event)
+        } else {
+            None
         }
     }
 
@@ -197,8 +213,20 @@ impl Followed {
         Some(need_of(u32::from(server.0), time, clock, flow))
     }
 
-    /// How long after its server's retirement the packet of the event that comes next, which has
-    /// this cause, isn't held because of that.
+    /// The same of the packet of an arrival.
+    fn need_of_unheld(&self, stage: &Stage, event: &Event) -> Option<NeedOf>
+        requires ranges { HasRanges stage.now }
+        ensures { (past : List Event) → KnowsCourse stage.now past self.now
+            → result ≡ needed.need_of_unheld stage.now past event.now.clock event.now.what }
+    {
+        match event.what {
+            What::Arrive { packet, .. } => self.unheld_need(stage, event.clock, packet),
+            _ => None,
+        }
+    }
+
+    /// How long after its server's retirement the packet of the event that comes next isn't held
+    /// because of that. The event's cause is this if it counts.
     pub(crate) fn server_need(
         &self,
         stage: &Stage,
@@ -207,14 +235,34 @@ impl Followed {
     ) -> Option<NeedOf>
         requires ranges { HasRanges stage.now }
         ensures { (past : List Event) → KnowsCourse stage.now past self.now
-            → cause ≡ causes.cause stage.now past event.now.clock.0 event.now.what
-            → result ≡ needed.server_need stage.now past event.now.clock event.now.what }
+            → cause ≡ counted_cause stage.now past event.now
+            → result ≡ needed.server_need stage.now past event.now }
     {
-        match event.what {
-            What::Arrive { packet, .. } if is_cause(Cause::NotHeld, cause) => {
-                self.unheld_need(stage, event.clock, packet)
-            }
-            _ => None,
+        if is_cause(Cause::NotHeld, cause) {
+            self.need_of_unheld(stage, event)
+        } else {
+            None
         }
+    }
+
+    /// Whether the packet of the event that comes next is dropped or reset since it came too late.
+    /// The event's cause is this if it counts, and this is its need of a third change.
+    pub(crate) fn came_late(
+        &self,
+        stage: &Stage,
+        event: &Event,
+        cause: Option<Cause>,
+        third: Option<NeedOf>,
+    ) -> bool
+        requires ranges { HasRanges stage.now }
+        requires moves { AreMoves stage.now.script.plan self.now.stamps.moves }
+        ensures { (past : List Event) → KnowsCourse stage.now past self.now
+            → cause ≡ counted_cause stage.now past event.now
+            → third ≡ thrice.thrice_need stage.now past event.now
+            → result ≡ late.came_late stage.now past event.now }
+    {
+        is_refused(event.what)
+            && is_of_timeout(cause, third)
+            && self.stamps.comes_late(stage, event)
     }
 }

@@ -1,6 +1,7 @@
 //! Connections of a history: a table of what became of each, and its text.
 #![tactic(auto)]
 
+mod after_end;
 mod all_needs;
 mod answer;
 mod base;
@@ -41,6 +42,7 @@ mod unretired;
 mod unsteered;
 mod waits;
 
+pub use after_end::{AfterEnd, after_end_text};
 pub use answer::{Answer, answer_of, answer_text};
 pub use base::{Parted, part, with_changes};
 pub use compared::{Compared, Origin, compare_one, wholes};

@@ -271,7 +271,7 @@ fn observe_each(
         let wait = stamps.wait(&h.stage, event);
         rows.observe(late, event, cause, wait);
         observe_close(closed, &h.stage, event)?;
-        resets.observe(&h.stage, event)?;
+        resets.observe(&h.stage, event, cause)?;
         stamps.observe(event.what)?;
     }
     Ok(())

@@ -1,12 +1,11 @@
 //! The connections that an RST ended, and which breaks don't count since they come after that.
-ghost use Rattle.std.specs.Prelude.{◌≡◌, ◌∷◌, ◌||◌, [], OnOk, List, is_some};
+ghost use Rattle.std.specs.Prelude.{◌≡◌, ◌∷◌, [], OnOk, List, is_some};
 ghost use Rattle.bm_base.specs.declared.flow.Flow.{Flow};
 ghost use Rattle.bm_core.specs.Causes as causes;
 ghost use Rattle.bm_core.specs.Past as past;
 ghost use Rattle.bm_core.specs.declared.events.Event.{Event};
 ghost use Rattle.bm_core.specs.declared.events.Stage.{Stage};
 ghost use Rattle.bm_trace.specs.CauseOf.{is_break};
-ghost use Rattle.bm_trace.specs.Totals as totals;
 ghost use Rattle.bm_connections.specs.Connections as counting;
 ghost use Rattle.bm_connections.specs.Inside.FlowSets.{is_in};
 ghost use Rattle.bm_connections.specs.Inside.Resets as kept;
@@ -17,16 +16,17 @@ use bm_base::{Flow, Segment, Taken, is_opening};
 use bm_core::{Cause, Event, Stage, Verdict, What};
 use std::alloc::{AllocError, Global};
 
-/// Whether an RST with this verdict ends its connection: the server gives it up, or doesn't hold it.
-fn ends_by_reset(verdict: Verdict) -> bool
-    ensures { result ≡ (past.ends verdict || totals.is_drop verdict) }
+/// Whether a server with this verdict gives the connection up.
+fn ends(verdict: Verdict) -> bool
+    ensures { result ≡ past.ends verdict }
 {
-    matches!(verdict, Verdict::Process(Taken::Ended) | Verdict::Drop(_))
+    matches!(verdict, Verdict::Process(Taken::Ended))
 }
 
-/// The flow whose connection a segment with this verdict begins or ends, if it does.
-fn reset_by(segment: Option<Segment>, verdict: Verdict) -> Option<Membership>
-    ensures { result ≡ kept.reset_by segment verdict }
+/// The flow whose connection a segment with this verdict, at an arrival that is a break or not,
+/// begins or ends, if it does.
+fn reset_by(segment: Option<Segment>, verdict: Verdict, broke: bool) -> Option<Membership>
+    ensures { result ≡ kept.reset_by segment verdict broke }
 {
     let segment = segment?;
     if is_opening(&segment) {
@@ -34,7 +34,7 @@ fn reset_by(segment: Option<Segment>, verdict: Verdict) -> Option<Membership>
             flow: segment.flow,
             member: false,
         })
-    } else if segment.has(RST) && ends_by_reset(verdict) {
+    } else if segment.has(RST) && ends(verdict) && !broke {
         Some(Membership {
             flow: segment.flow,
             member: true,
@@ -44,16 +44,16 @@ fn reset_by(segment: Option<Segment>, verdict: Verdict) -> Option<Membership>
     }
 }
 
-/// The flow whose connection the event begins or ends, if it does.
-fn reset_of(stage: &Stage, what: What) -> Option<Membership>
-    ensures { result ≡ kept.reset_of stage.now what }
+/// The flow whose connection the event, which is a break or not, begins or ends, if it does.
+fn reset_of(stage: &Stage, what: What, broke: bool) -> Option<Membership>
+    ensures { result ≡ kept.reset_of stage.now what broke }
 {
     match what {
         What::Arrive {
             packet,
             verdict,
             ..
-        } => reset_by(stage.segment(packet), verdict),
+        } => reset_by(stage.segment(packet), verdict, broke),
         _ => None,
     }
 }
@@ -81,20 +81,27 @@ impl Resets {
         self.ended.contains(flow)
     }
 
-    /// Records the event that comes next.
-    pub(crate) fn observe(&mut self, stage: &Stage, event: &Event) -> Result<(), AllocError>
+    /// Records the event that comes next, which has this cause.
+    pub(crate) fn observe(
+        &mut self,
+        stage: &Stage,
+        event: &Event,
+        cause: Option<Cause>,
+    ) -> Result<(), AllocError>
         ensures { (past : List Event) → kept.KnowsResets stage.now past self.old
+            → is_some cause ≡ is_break stage.now past event.now.what
             → OnOk result (kept.KnowsResets stage.now (event.now ∷ past) self.new) }
     {
-        self.ended.change(reset_of(stage, event.what))?;
+        self.ended
+            .change(reset_of(stage, event.what, cause.is_some()))?;
         Ok(())
     }
 
-    /// Whether the segment carries RST, or doesn't open its flow after an RST has ended it.
+    /// Whether the segment doesn't open its flow, and an RST has ended the flow's connection.
     fn follows_end(&self, segment: &Segment) -> bool
         ensures { result ≡ kept.follows_end self.now segment.now }
     {
-        segment.has(RST) || !is_opening(segment) && self.has(&segment.flow)
+        !is_opening(segment) && self.has(&segment.flow)
     }
 
     /// Whether the event that comes next is an arrival of such a segment.

@@ -1,16 +1,24 @@
 //! What is kept of labels, for the stamps in them.
-ghost use Rattle.std.specs.Prelude.{◌≡◌, [], ◌∷◌, List, IfOk, OnOk};
-ghost use Rattle.bm_core.specs.Past.{label_of};
+ghost use Rattle.std.specs.Prelude.{◌≡◌, ◌+◌, nat_lt, [], ◌∷◌, List, IfOk, OnOk};
+ghost use Rattle.bm_core.specs.Past.{label_of, timeout};
 ghost use Rattle.bm_core.specs.declared.events.Event.{Event};
 ghost use Rattle.bm_core.specs.declared.events.Stage.{Stage};
 ghost use Rattle.bm_state.specs.Moves.{AreMoves};
 ghost use Rattle.bm_trace.specs.Ranges.{HasRanges};
+ghost use Rattle.bm_connections.specs.Late as late;
 ghost use Rattle.bm_connections.specs.Waits.{stamp_of, wait_of};
 
-use bm_base::{Hop, Label, Memory};
+use bm_base::{Hop, Label, Memory, Moment};
 use bm_core::{Event, Stage, What};
 use bm_state::{Labels, Moves, Versions};
 use std::alloc::Global;
+
+/// Whether the clock is past the stamp by more than the timeout.
+fn is_past(stamp: Moment, stage: &Stage, clock: Moment) -> bool
+    ensures { result ≡ nat_lt (stamp.0 + timeout stage.now) clock.0 }
+{
+    u128::from(stamp.0) + u128::from(stage.script.setting.timeout) < u128::from(clock.0)
+}
 
 /// The versions of the muxes and the labels of packets after some events.
 #[derive(Drop)]
@@ -72,6 +80,40 @@ impl Stamps {
         match label.entry.onward(hop) {
             Some(past) => past.stamp.0,
             None => 0,
+        }
+    }
+
+    /// Whether there is a label by which a copy of this hop comes too late at this clock.
+    fn has_late_label(&self, stage: &Stage, packet: u32, hop: Hop, clock: Moment) -> bool
+        requires ranges { HasRanges stage.now }
+        requires moves { AreMoves stage.now.script.plan self.now.moves }
+        ensures { (past : List Event) → KnowsStamps stage.now past self.now
+            → result ≡ late.has_late_label (timeout stage.now) stage.now
+            (label_of stage.now past packet) hop clock.0 }
+    {
+        let Some(label) = self.labels.label(stage, &self.moves, packet) else {
+            return false;
+        };
+        match label.entry.onward(hop) {
+            Some(past) => is_past(past.stamp, stage, clock),
+            None => false,
+        }
+    }
+
+    /// Whether the packet of the event that comes next arrives too late for the server to which the
+    /// copy may be passed on.
+    pub(crate) fn comes_late(&self, stage: &Stage, event: &Event) -> bool
+        requires ranges { HasRanges stage.now }
+        requires moves { AreMoves stage.now.script.plan self.now.moves }
+        ensures { (past : List Event) → KnowsStamps stage.now past self.now
+            → result ≡ late.comes_late (timeout stage.now) stage.now past event.now.clock.0
+            event.now.what }
+    {
+        match event.what {
+            What::Arrive { packet, hop, .. } => {
+                self.has_late_label(stage, packet, hop, event.clock)
+            }
+            _ => false,
         }
     }
 

@@ -2,28 +2,28 @@
 ghost use Rattle.std.specs.Prelude.{◌≡◌, IfOk};
 ghost use Rattle.bm_core.specs.Runs.{IsRun};
 ghost use Rattle.bm_trace.specs.Swept.{AreCauses};
+ghost use Rattle.bm_connections.specs.AfterEnd.{after_end};
 ghost use Rattle.bm_connections.specs.Connections.{connections};
 ghost use Rattle.bm_connections.specs.Counts.{causes_in, server_counts};
-ghost use Rattle.bm_connections.specs.Late.{longest_late};
 ghost use Rattle.bm_connections.specs.Replies.{replies};
 
+use crate::after_end::{AfterEnd, connections_after_end};
 use crate::connection::Connection;
 use crate::counters::Counters;
 use crate::counts::{CauseCount, causes_in};
-use crate::late::LongestLate;
 use crate::servers::{ServerCount, server_counts};
 use bm_base::{List, Memory, ServerId};
 use bm_core::{Event, History};
 use bm_trace::CauseList;
 use std::alloc::Global;
 
-/// The counts of the causes that occur and of some servers, the longest wait of the packets that came
-/// too late, if there are any, and the replies to `close` and `retire`.
+/// The counts of the causes that occur and of some servers, of the packets that come after their
+/// connection's end, and the replies to `close` and `retire`.
 #[derive(Drop)]
 pub struct Summary {
     pub causes: List<CauseCount>,
     pub servers: List<ServerCount>,
-    pub late: Option<LongestLate>,
+    pub after_end: AfterEnd,
     pub replies: List<Event>,
 }
 
@@ -42,17 +42,20 @@ pub fn summary_of(
     requires table { table.now ≡ connections h.now }
     ensures causes { IfOk result (λ summary. summary.causes ≡ causes_in h.now) }
     ensures servers { IfOk result (λ summary. summary.servers ≡ server_counts h.now servers.now) }
-    ensures late { IfOk result (λ summary. summary.late ≡ longest_late h.now) }
+    ensures after_end { IfOk result (λ summary. summary.after_end ≡ after_end h.now) }
     ensures replies { IfOk result (λ summary. summary.replies ≡ replies h.now) }
 {
     let counters = Counters::of(alloc, h, causes)?;
     let occurring = causes_in(alloc, &counters.packets, table)?;
     let served = server_counts(alloc, &h.stage, &counters.loads, &counters.held, servers)?;
-    let late = counters.late.longest_late();
+    let after_end = AfterEnd {
+        packets: counters.after_end,
+        connections: connections_after_end(table),
+    };
     Ok(Summary {
         causes: List::of(occurring),
         servers: List::of(served),
-        late,
+        after_end,
         replies: List::of(counters.replies),
     })
 }

@@ -3,6 +3,7 @@
 use Rattle.std.specs.Prelude.{ℕ, List, [], ◌∷◌, ◌++◌, Option, flat_map}
 use Rattle.bm_core.specs.declared.events.History.{History}
 use Rattle.bm_connections.specs.declared.compared.Compared.{Compared}
+use Rattle.bm_connections.specs.AfterEnd.{after_end, after_end_text}
 use Rattle.bm_connections.specs.Base.{compared}
 use Rattle.bm_connections.specs.Connections.{connections}
 use Rattle.bm_connections.specs.Counts.{causes_in, server_counts}
@@ -67,9 +68,11 @@ reply_parts clock h =
     replies_text clock h.events
     ∷ retired_text clock (needed_servers h (servers_of h.stage.script)) ∷ []
 
--- the causes of what broke, what came too late, and what moved three times
+-- the causes of what broke, what came too late, what moved three times, and what comes after its
+-- connection's end
 abbrev pub cause_parts : History → List (List ℕ)
-cause_parts h = cause_lines h ∷ late_lines h ∷ thrice_text (moved_thrice h) ∷ []
+cause_parts h =
+    cause_lines h ∷ late_lines h ∷ thrice_text (moved_thrice h) ∷ after_end_text (after_end h) ∷ []
 
 -- what isn't steered, and whether the capture is cut short
 abbrev pub capture_parts : History → List (List ℕ)

@@ -19,9 +19,9 @@ use crate::outlived::outlived_text;
 use crate::replies::replies_text;
 use bm_base::{List, Memory, Text};
 use bm_connections::{
-    Clock, Connection, answer_of, answer_text, causes_text, connections, copies_text, late_text,
-    moved_thrice_text, needed_changes_text, needed_servers_text, open_ends_text, servers_text,
-    table_text, unsteered_text,
+    Clock, Connection, after_end_text, answer_of, answer_text, causes_text, connections,
+    copies_text, late_text, moved_thrice_text, needed_changes_text, needed_servers_text,
+    open_ends_text, servers_text, table_text, unsteered_text,
 };
 use bm_core::History;
 use bm_drawing::drawing;
@@ -61,7 +61,7 @@ fn parts_of(
     ensures { IfOk result (λ parts. parts.items
         ≡ spec.parts clock.0 h.now (compared_with table.now wholes.now)) }
 {
-    let mut parts = Vec::with_capacity(alloc, 19)?;
+    let mut parts = Vec::with_capacity(alloc, 20)?;
     add_outcome(alloc, &mut parts, clock, h, table, wholes, found)?;
     add_reasons(alloc, &mut parts, h, table, found)?;
     Ok(parts)
@@ -125,7 +125,7 @@ fn add_table(
 {
     let racks = h.stage.script.setting.racks;
     let summary = &found.summary;
-    let answer = answer_of(table, wholes, found.ends.connections, summary.late);
+    let answer = answer_of(table, wholes, found.ends.connections, found.needs.late);
     add(parts, answer_text(alloc, &answer))?;
     add(parts, table_text(alloc, clock, racks, table, wholes))?;
     add(parts, servers_text(alloc, summary.servers.items()))?;
@@ -184,7 +184,8 @@ fn add_replies(
     Ok(())
 }
 
-/// Appends the causes of what broke, what came too late, and what moved three times.
+/// Appends the causes of what broke, what came too late, what moved three times, and what comes
+/// after its connection's end.
 fn add_causes(
     alloc: Global,
     parts: &mut Vec<Text>,
@@ -195,8 +196,9 @@ fn add_causes(
     ensures { OnOk result (parts.new.items ≡ parts.old.items ++ spec.cause_parts h.now) }
 {
     add(parts, causes_text(alloc, found.summary.causes.items()))?;
-    add(parts, late_text(alloc, found.summary.late))?;
+    add(parts, late_text(alloc, found.needs.late))?;
     add(parts, moved_thrice_text(alloc, found.needs.thirds.items()))?;
+    add(parts, after_end_text(alloc, found.summary.after_end))?;
     Ok(())
 }
 

@@ -7,8 +7,8 @@ use crate::stages::{
 };
 use bm_base::{Memory, Moment, ServerId, Text};
 use bm_connections::{
-    Clock, Summary, TimeText, causes_text, connections, late_text, servers_text, summary_of,
-    table_text,
+    Clock, Summary, TimeText, after_end_text, causes_text, connections, late_text, needs_of,
+    servers_text, summary_of, table_text,
 };
 use bm_core::History;
 use bm_trace::sweep;
@@ -55,7 +55,7 @@ struct Case {
     text: &'static str,
 }
 
-static CASES: [Case; 7] = [
+static CASES: [Case; 8] = [
     Case {
         rows: &[OPENING, DATA, DATA],
         capacity: 4_096,
@@ -110,6 +110,16 @@ static CASES: [Case; 7] = [
                last 5 at 400.000000000 \
                accepted 1 times 1 processed 2 forwarded 0 dropped 1 reset 1 stray 0 \
                after-its-end 2 end rst whole\n",
+    },
+    Case {
+        rows: &[OPENING, (1000, RST, 101, 0), DATA],
+        capacity: 4_096,
+        closing: true,
+        text: "connection 10.0.0.1:1000 192.0.2.1:80 opened 1 at 0.000000000 \
+               last 3 at 200.000000000 \
+               accepted 1 times 1 processed 0 forwarded 0 dropped 1 reset 1 stray 0 \
+               after-its-end 0 end close \
+               broken 2 drop silent because not-held at 100.000000002 anyway losing-data\n",
     },
     Case {
         rows: &[
@@ -194,12 +204,31 @@ fn check_counts(rt: &impl Abort, alloc: Global, h: &History)
     assert!(rt; is(causes, "cause not-held packets 2 broken 1 refused 0\n"));
 }
 
+/// An RST ends the connection, and its copy is dropped.
+#[test]
+fn packets_after_the_end_are_counted(rt: HostRuntime) {
+    let alloc = rt.alloc();
+    let rows = [OPENING, DATA, ENDING, ENDING];
+    let h = bare_history(alloc, GAP, &rows, 4_096, false, None).expect(&rt, "memory");
+    check_after_end(&rt, alloc, &h);
+}
+
+fn check_after_end(rt: &impl Abort, alloc: Global, h: &History)
+    requires { IsRun h.now }
+{
+    let counted = summary(alloc, h, &[]).expect(rt, "memory");
+    let line = after_end_text(alloc, counted.after_end);
+    assert!(rt; is(line, "after-its-end packets 1 connections 1\n"));
+}
+
 /// The line of the longest wait.
+#[tactic(auto, using(bm_trace::proofs::Ranged::ranges_of))]
 fn late_line(alloc: Global, h: &History) -> Result<Text, Memory>
     requires { IsRun h.now }
 {
-    let counted = summary(alloc, h, &[])?;
-    late_text(alloc, counted.late)
+    let causes = sweep(alloc, h)?;
+    let needs = needs_of(alloc, h, &causes, &[])?;
+    late_text(alloc, needs.late)
 }
 
 /// Checks the line of the longest wait, and the text of the history's connections.

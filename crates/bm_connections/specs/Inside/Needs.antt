@@ -25,6 +25,7 @@ use Rattle.bm_connections.specs.declared.needed.NeededServer.{NeededServer}
 use Rattle.bm_connections.specs.declared.needs.Need.{Need}
 use Rattle.bm_connections.specs.declared.unretired.FirstRetirements.{FirstRetirements}
 use Rattle.bm_connections.specs.declared.unretired.Unretired.{Unretired}
+use Rattle.bm_connections.specs.Late.{longest_wait}
 use Rattle.bm_connections.specs.Needed.{as_server, first_moment, longest_of_change}
 use Rattle.bm_connections.specs.Needed.{longest_of_server, retired_at, without_retirements}
 use Rattle.bm_connections.specs.Seen.{last_seen, records_of}
@@ -91,9 +92,10 @@ pub record KnowsCourse (stage : Stage) (past : List Event) (f : Followed) : Type
   pub unretired : KnowsUnretired stage past f.unretired
   pub last : KnowsLast (records_of stage) f.last
 
--- these are the longest needs after these events
+-- these are the longest needs, and the longest wait of a packet that came too late, after these events
 pub record HasNeeds (stage : Stage) (past : List Event) (a : AllNeeds) : Type 0 where
   pub followed : KnowsCourse stage past a.followed
+  pub late : a.late ≡ longest_wait stage past
   pub changes : (n : ℕ) → need_in a.changes n ≡ longest_of_change stage past n
   pub thirds : (n : ℕ) → need_in a.thirds n ≡ longest_of_third stage past n
   pub servers : (n : ℕ) → need_in a.servers n ≡ longest_of_server stage past n

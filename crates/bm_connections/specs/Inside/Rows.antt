@@ -27,7 +27,7 @@ use Rattle.bm_connections.specs.declared.observed.Facts.{Facts}
 use Rattle.bm_connections.specs.declared.rows.Rows.{Rows}
 use Rattle.bm_connections.specs.declared.seen.Seen.{Seen}
 use Rattle.bm_connections.specs.Connections.{connection, first_of_two, one_more}
-use Rattle.bm_connections.specs.Endings.{carries_data, ending_seen, segment_at}
+use Rattle.bm_connections.specs.Endings.{carries_data, ending_seen, is_at_an_end, segment_at}
 use Rattle.bm_connections.specs.Endings as endings
 use Rattle.bm_connections.specs.Inside.Marks.{mark_of, marks_by}
 use Rattle.bm_connections.specs.Seen.{first_seen, flows_of, last_seen}
@@ -56,7 +56,7 @@ is_unfinished _ = true
 
 -- the segment is in the middle of a connection that ended so before it
 abbrev pub is_in_the_middle : Segment → Ending → Bool
-is_in_the_middle s before = not (is_opening s) && is_unfinished (ending_after s before)
+is_in_the_middle s before = not (is_at_an_end s) && is_unfinished (ending_after s before)
 
 -- the segment concerns more than the farewell, if the one before it had data or not, and the
 -- connection ended so before it

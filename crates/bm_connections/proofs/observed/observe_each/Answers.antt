@@ -32,7 +32,7 @@ loop-place-preserved c =
           (c.in_ok-observe_close.ensures _ c.loop-place.invariant.closed);
       resets = past_more (λ past. KnowsResets c.args.h.now.stage past c.observe-in-loop-place.new.self)
           c.items-events.result.now c.loop-place.place _ c.loop-place-test.true
-          (c.in_ok-observe.ensures _ c.loop-place.invariant.resets);
+          (c.in_ok-observe.ensures _ c.loop-place.invariant.resets broke);
       known = past_more (λ past. KnowsStamps c.args.h.now.stage past c.observe-in-loop-place-2.new.self)
           c.items-events.result.now c.loop-place.place _ c.loop-place-test.true
           (c.in_ok-observe-2.ensures c.args.h.now.stage _ _ refl c.loop-place.invariant.known);

@@ -1,5 +1,6 @@
 use Rattle.std.proofs.Common.{ℕ, List, [], ◌∷◌, ◌∙◌, ap}
 use Rattle.std.specs.Prelude.{flat_map}
+use Rattle.bm_connections.specs.AfterEnd.{after_end, after_end_text}
 use Rattle.bm_connections.specs.NeededText.{thrice_text}
 use Rattle.bm_connections.specs.Text.{cause_line, late_text}
 use Rattle.bm_connections.specs.Thrice.{moved_thrice}
@@ -17,4 +18,6 @@ returns c =
     let p2 = added c.late_text.result _ _ _ d2 c.in_ok-add-2.ensures c.late_text.ensures (ap late_text f.late) in
     let d3 : List ℕ = thrice_text (moved_thrice h) in
     let p3 = added c.moved_thrice_text.result _ _ _ d3 c.in_ok-add-3.ensures c.moved_thrice_text.ensures (ap thrice_text (c.items-2.ensures ∙ f.thirds)) in
-    then_more c.args.parts.now.items (d1 ∷ d2 ∷ []) (d3 ∷ []) _ _ (then_more c.args.parts.now.items (d1 ∷ []) (d2 ∷ []) _ _ (p1) p2) p3
+    let d4 : List ℕ = after_end_text (after_end h) in
+    let p4 = added c.after_end_text.result _ _ _ d4 c.in_ok-add-4.ensures c.after_end_text.ensures (ap after_end_text f.after_ends) in
+    then_more c.args.parts.now.items (d1 ∷ d2 ∷ d3 ∷ []) (d4 ∷ []) _ _ (then_more c.args.parts.now.items (d1 ∷ d2 ∷ []) (d3 ∷ []) _ _ (then_more c.args.parts.now.items (d1 ∷ []) (d2 ∷ []) _ _ (p1) p2) p3) p4

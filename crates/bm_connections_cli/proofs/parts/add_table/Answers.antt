@@ -18,8 +18,8 @@ returns c =
     let left = open_count h.stage (connections h) in
     let found = c.args.found.now in
     let is = c.answer_of-answer.ensures
-    ∙ ap (λ t. answer_of t cs found.ends.connections found.summary.late) c.requires.table
-    ∙ ap (λ n. answer_of (connections h) cs n found.summary.late) f.open_connections
+    ∙ ap (λ t. answer_of t cs found.ends.connections found.needs.late) c.requires.table
+    ∙ ap (λ n. answer_of (connections h) cs n found.needs.late) f.open_connections
     ∙ ap (answer_of (connections h) cs left) f.late in
     let d1 : List ℕ = answer_line (answer_of (connections h) cs left (longest_late h)) in
     let p1 = added c.answer_text.result _ _ _ d1 c.in_ok-add.ensures c.answer_text.ensures (ap answer_line is) in
