@@ -187,9 +187,10 @@ class Table:
             needs[number] = time, e["clock"], flow
 
     def compare(self, base):
-        """Says of each broken connection whether it is whole in the table of the base."""
+        """Says of each broken connection whether it is whole in the table of the base, and whether any is broken or refused that is."""
         for c, other in zip(self.connections, base.connections, strict=True):
             c.why = ("by-the-change" if other.is_whole() else "anyway") if c.broken else None
+        self.fails = any((c.broken or c.refused()) and other.is_whole() for c, other in zip(self.connections, base.connections))
 
     def left_open(self):
         """For each change, the connections that are open at the end, and whose server it took the bucket from for good."""
@@ -307,10 +308,10 @@ def homeward(fleet, version, moves):
 
 def change_lines(fleet, began):
     for version, (moment, words, moves) in enumerate(fleet.changes, 1):
-        kind = "move" if words[0] in ("move", "weight") else f"{words[0]} {words[1]}"
+        said = " ".join(map(str, words[:2] if words[0] == "add" else words))
         home = homeward(fleet, version, moves)
         home = f" home {home}" if fleet.racks > 1 and home else ""
-        yield f"change {version} at {time_of(moment, began)} {kind} buckets {len(moves)} of {fleet.buckets}{home} owns {owns(fleet, version)}"
+        yield f"change {version} at {time_of(moment, began)} {said} buckets {len(moves)} of {fleet.buckets}{home} owns {owns(fleet, version)}"
 
 
 def need_words(need, began):

@@ -32,12 +32,31 @@ _beamer_lifetime() {
   esac
 }
 
-# Completes the last option of a story. Bash takes an address and its port for three words.
+# Completes the options of a story after its client. Bash takes an address and its port for three words.
 _beamer_story() {
-  case " ${COMP_WORDS[*]:4:COMP_CWORD-4} " in
-    "  " | *" --clock "*) ;;
-    *) mapfile -t COMPREPLY < <(compgen -W "--clock" -- "$1") ;;
+  [ "$COMP_CWORD" = 4 ] || mapfile -t COMPREPLY < <(compgen -W "$(_beamer_unsaid --clock --fail)" -- "$1")
+}
+
+# Those of these options that no word before this one is.
+_beamer_unsaid() {
+  local option
+  for option; do
+    case " ${COMP_WORDS[*]:3:COMP_CWORD-3} " in
+      *" $option "*) ;;
+      *) echo "$option" ;;
+    esac
+  done
+}
+
+# Completes a format, `--clock` or `--fail`, each once and one format; after `--svg` also the file of the drawing.
+_beamer_options() {
+  local formats="--csv --json --svg" others
+  others=$(_beamer_unsaid --clock --fail)
+  case " ${COMP_WORDS[*]:3:COMP_CWORD-3} " in
+    *" --csv "* | *" --json "* | *" --svg "*) formats= ;;
   esac
+  mapfile -t COMPREPLY < <(compgen -W "$formats $others" -- "$1")
+  [ "${COMP_WORDS[COMP_CWORD - 1]}" != --svg ] || mapfile -t COMPREPLY < <(compgen -f -W "$others" -- "$1")
 }
 
 _beamer_connections() {
@@ -58,16 +77,8 @@ _beamer_connections() {
   case $COMP_CWORD in
     1) _beamer_files "$word" '@(pcap|pcapng|cap)' ;;
     2) _beamer_files "$word" toml ;;
-    3) mapfile -t COMPREPLY < <(compgen -W "--csv --json --svg --clock --of" -- "$word") ;;
-    4) case ${COMP_WORDS[3]} in
-         --clock) mapfile -t COMPREPLY < <(compgen -W "--csv --json --svg" -- "$word") ;;
-         --csv | --json) mapfile -t COMPREPLY < <(compgen -W "--clock" -- "$word") ;;
-         --svg) mapfile -t COMPREPLY < <(compgen -f -W "--clock" -- "$word") ;;
-       esac ;;
-    5) case ${COMP_WORDS[3]} in
-         --clock) [ "${COMP_WORDS[4]}" != --svg ] || mapfile -t COMPREPLY < <(compgen -f -- "$word") ;;
-         --svg) mapfile -t COMPREPLY < <(compgen -W "--clock" -- "$word") ;;
-       esac ;;
+    3) mapfile -t COMPREPLY < <(compgen -W "--csv --json --svg --clock --fail --of" -- "$word") ;;
+    *) _beamer_options "$word" ;;
   esac
 }
 complete -F _beamer_connections beamer-connections ./beamer-connections

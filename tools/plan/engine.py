@@ -22,7 +22,7 @@ ANSWER = re.compile(
     r"answer connections \d+ broken \d+ by-the-change \d+ losing-data \d+ refused \d+ open-at-end (?P<open>\d+)"
     r"(?: timeout_s (?P<late_s>\d+))?"
 )
-CHANGE = re.compile(r"change \d+ at \S+ (?:add \d+|drain \d+|move) buckets (\d+) of (\d+)(?: home \d+)? owns .+")
+CHANGE = re.compile(r"change \d+ at \S+ (?:add \d+|drain \d+|move \d+ \d+|weight \d+ \d+) buckets (\d+) of (\d+)(?: home \d+)? owns .+")
 NEEDED = re.compile(r"needed change \d+ for (\S+) by (\S+)")
 OPEN_END = re.compile(r"open-at-end change \d+ connections \d+ longest-idle (\S+)")
 

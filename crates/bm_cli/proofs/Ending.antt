@@ -34,6 +34,7 @@ holds_more told fact more by h = record { reads = h.reads; known = h.known; hold
 abbrev pub nothing : Reads
 nothing = record {
   script = λ name. Err WantsMemory;
+  verbs = λ name. [];
   capture = λ name vips. Err NoMemory;
   began = λ name. 0;
   trace = λ name. None;

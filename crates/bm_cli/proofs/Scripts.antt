@@ -1,18 +1,22 @@
 -- What is read of a script, from its source and from the files.
-use Rattle.std.proofs.Common.{◌≡◌, inl, inr, ℕ, ◌≤◌, ◌<◌, List, Option, Some, None, Result, Ok, Err, IsErrAnd, take}
+use Rattle.std.proofs.Common.{◌≡◌, ◌≢◌, IfOk, inl, inr, ℕ, ◌≤◌, ◌<◌, List, Option, Some, None, Result, Ok, Err, IsErrAnd, take}
 use Rattle.std.proofs.Common.{length, sym, ap, subst, ◌∙◌, refl, arith}
+use Rattle.std.specs.Result.{result_map_both}
 use Rattle.bm_io.specs.Causes.{Rose}
 use Rattle.bm_script.specs.declared.fault.ScriptFault.{ScriptFault}
 use Rattle.bm_script.specs.declared.fault.ScriptFault.TheVariants.{NotToml, Missing, BadValue, Unknown, Refused, Rack}
 use Rattle.bm_script.specs.declared.fault.ScriptFault.TheVariants.{Memory as ScriptMemory}
-use Rattle.bm_script.specs.Faults.{Gives}
+use Rattle.bm_script.specs.declared.verbs.ChangeVerb.{ChangeVerb}
+use Rattle.bm_script.specs.declared.verbs.WordedScript.{WordedScript}
+use Rattle.bm_script.specs.Faults.{Gives, ◌>>=◌}
 use Rattle.bm_script.specs.Scripts.{script_of}
+use Rattle.bm_script.specs.Verbs.{verbs_of, worded_script_of}
 use Rattle.bm_table.specs.declared.script.Script.{Script}
 use Rattle.bm_cli.specs.declared.fault.StageFault.{StageFault}
 use Rattle.bm_cli.specs.declared.fault.StageFault.TheVariants.{LongScript, Script as OfScript}
 use Rattle.bm_cli.specs.Plain.{plain_script}
 use Rattle.bm_cli.specs.Inside.Fronts.{HasFront}
-use Rattle.bm_cli.specs.Inside.Scripts.{ReadsScript}
+use Rattle.bm_cli.specs.Inside.Scripts.{ReadsScript, ReadsVerbs}
 use Rattle.bm_cli.specs.Stages.{IsOutside, IsRead}
 use Rattle.bm_cli.specs.Reading.{Octets, script_in, with_script_fault}
 use Rattle.bm_cli.proofs.Fronts.{few, too_many, whole}
@@ -67,6 +71,42 @@ script_fault octets text (Rack n refusal) front few gives =
     fault_is octets text (Rack n refusal) front few (gives (λ e. cc))
 script_fault octets text ScriptMemory front few gives = inl (inr refl)
 
+-- WHAT ITS COMMANDS SAY
+
+abbrev worded : List ℕ → Script → Result WordedScript ScriptFault
+worded text script = Ok (record { script = script; verbs = verbs_of text })
+
+worded_by : (text : List ℕ) (read : WordedScript) (due : Result Script ScriptFault) → (due >>= worded text) ≡ Ok read →
+    (due ≡ Ok read.script) × (read.verbs ≡ verbs_of text)
+worded_by text read (Ok script) is =
+    let made : WordedScript = record { script = script; verbs = verbs_of text } in
+    let same : made ≡ read = cc in
+    let ok : Script → Result Script ScriptFault = λ s. Ok s in
+    (ap (λ (w : WordedScript). ok w.script) same, sym (ap (λ (w : WordedScript). w.verbs) same))
+worded_by text read (Err fault) is = absurd (cc)
+
+-- a script that is read with what its commands say
+pub worded_is : (text : List ℕ) (read : WordedScript) → Gives (Ok read) (worded_script_of text) →
+    (script_of text ≡ Ok read.script) × (read.verbs ≡ verbs_of text)
+worded_is text read is = worded_by text read (script_of text) is
+
+unworded : (text : List ℕ) (fault : ScriptFault) (due : Result Script ScriptFault) → (due >>= worded text) ≡ Err fault →
+    due ≡ Err fault
+unworded text fault (Ok script) is = absurd (cc)
+unworded text fault (Err found) is =
+    let same : found ≡ fault = cc in
+    let err : ScriptFault → Result Script ScriptFault = λ f. Err f in
+    ap err same
+
+-- its fault
+pub worded_fault : (text : List ℕ) (fault : ScriptFault) → Gives (Err fault) (worded_script_of text) →
+    fault ≢ ScriptMemory → script_of text ≡ Err fault
+worded_fault text fault gives other = unworded text fault (script_of text) (gives other)
+
+pub verbs_are : (octets text : List ℕ) (verbs : List ChangeVerb) → text ≡ take 1048577 octets →
+    length text ≤ 1048576 → verbs ≡ verbs_of text → verbs ≡ verbs_of octets
+verbs_are octets text verbs front short is = is ∙ ap verbs_of (whole 1048576 octets text front short)
+
 -- THE FILE
 
 pub script_read : (told : Octets) (name text : List ℕ) (result : Result Script StageFault) →
@@ -74,6 +114,14 @@ pub script_read : (told : Octets) (name text : List ℕ) (result : Result Script
     IsRead (script_in octets) result) → ReadsScript told (Some name) result
 script_read None name text result front reads = tt
 script_read (Some octets) name text result front reads = reads (octets name) front
+
+pub verbs_read : (told : Octets) (name text : List ℕ) (result : Result WordedScript StageFault) →
+    HasFront told name 1048577 text → ((octets : List ℕ) → text ≡ take 1048577 octets →
+    IfOk result (λ read. read.verbs ≡ verbs_of octets)) →
+    IfOk result (λ read. ReadsVerbs told (Some name) read.verbs)
+verbs_read told name text (Err fault) front reads = tt
+verbs_read None name text (Ok read) front reads = tt
+verbs_read (Some octets) name text (Ok read) front reads = reads (octets name) front
 
 pub script_unread : (told : Octets) (name : Option (List ℕ)) (fault : StageFault) → IsOutside fault →
     ReadsScript told name (Err fault)
@@ -89,3 +137,10 @@ pub read_err : {A : Type 0} (due r : Result A StageFault) (fault : StageFault) �
     IsRead due (Err fault) → IsRead due r
 read_err due (Ok x) fault is read = absurd is
 read_err due (Err e) fault is read = subst (λ f. IsRead due (Err f)) (sym is) read
+
+-- the same, of a script with what its commands say
+pub worded_err : (due : Result Script StageFault) (r : Result WordedScript StageFault) (fault : StageFault) →
+    IsErrAnd r (λ e. e ≡ fault) → IsRead due (Err fault) →
+    IsRead due (result_map_both (λ read. read.script) (λ fault. fault) r)
+worded_err due (Ok x) fault is read = absurd is
+worded_err due (Err e) fault is read = subst (λ f. IsRead due (Err f)) (sym is) read

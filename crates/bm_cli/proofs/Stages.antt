@@ -13,11 +13,12 @@ use Rattle.bm_pcap.specs.declared.fault.CaptureFault.{CaptureFault}
 use Rattle.bm_pcap.specs.declared.fault.CaptureFault.TheVariants.{NotACapture, BadVersion, BadLink, BadBlock, TooLarge}
 use Rattle.bm_pcap.specs.declared.fault.CaptureFault.TheVariants.{ReadFault as SourceFault, Memory as NoMemory}
 use Rattle.bm_pcap.specs.declared.fault.CaptureFault.TheVariants.{BadLength, TooManyPackets}
-use Rattle.bm_core.specs.declared.events.Stage.{Stage}
+use Rattle.bm_script.specs.declared.verbs.ChangeVerb.{ChangeVerb}
 use Rattle.bm_words.specs.Form.{Named}
 use Rattle.bm_cli.specs.declared.fault.StageFault.{StageFault}
 use Rattle.bm_cli.specs.declared.fault.StageFault.TheVariants.{Capture as OfCapture, Seats}
 use Rattle.bm_cli.specs.declared.mode.Mode.{Mode}
+use Rattle.bm_cli.specs.declared.stage.NamedStage.{NamedStage}
 use Rattle.bm_cli.specs.declared.mode.Mode.TheVariants.{Replay, Run}
 use Rattle.bm_cli.specs.declared.status.Status.TheVariants.{ReadFault, Memory}
 use Rattle.bm_cli.specs.Dues.{names_after}
@@ -25,13 +26,13 @@ use Rattle.bm_cli.specs.Ends.{AsksFor}
 use Rattle.bm_pcap.specs.Causes.{HasStepCause}
 use Rattle.bm_pcap.specs.Reader.{Captures}
 use Rattle.bm_cli.specs.Inside.Captures.{FileBegan, ReadsFile}
-use Rattle.bm_cli.specs.Inside.Scripts.{ReadsScript}
+use Rattle.bm_cli.specs.Inside.Scripts.{ReadsScript, ReadsVerbs}
 use Rattle.bm_cli.specs.Stages.{IsOutside, IsRead}
 use Rattle.bm_cli.specs.Stages.{ReadsStage, status_by}
 use Rattle.bm_cli.specs.Lines.{capture_status, fault_status}
 use Rattle.bm_cli.specs.Names.{AsksAll, AsksPrefix, script_names}
 use Rattle.bm_cli.specs.Reading.{Holds, Octets, Reading, Reads, if_taken, reading, reads_of, script_by, script_for}
-use Rattle.bm_cli.specs.Reading.{taken}
+use Rattle.bm_cli.specs.Reading.{taken, verbs_for}
 use Rattle.bm_cli.specs.Reading.{with_capture, with_script}
 use Rattle.bm_cli.specs.Statuses.{FilesDid}
 use Rattle.bm_cli.specs.Streams.{packets_in, packets_of, packets_with}
@@ -45,27 +46,29 @@ behind_opens name [] = λ e. cc
 behind_opens name (x ∷ xs) = λ e. cc
 
 -- the reads where the files' octets aren't known: whatever was read
-abbrev just : Result Script StageFault → Captured → ℕ → Reads
-just script captured time = record {
+abbrev just : Result Script StageFault → List ChangeVerb → Captured → ℕ → Reads
+just script verbs captured time = record {
   script = λ name. script;
+  verbs = λ name. verbs;
   capture = λ name vips. captured;
   began = λ name. time;
   trace = λ name. None;
 }
 
--- of a stage that was read this is when its capture began
-abbrev pub BeganWith : {A : Type 0} → Result A CaptureFault → ℕ → List ℕ → Reads → Type 0
-BeganWith r time name reads = IfOk r (λ read. time ≡ reads.began name)
+-- of a stage that was read this is when its capture began, and this is what its script's commands say
+abbrev pub BeganWith : {A : Type 0} → Result A CaptureFault → ℕ → List ChangeVerb → Named → Reads → Type 0
+BeganWith r time verbs names reads =
+    IfOk r (λ read. (time ≡ reads.began names.capture) × (verbs ≡ verbs_for reads names.script))
 
 -- of a capture that was read these are the packets
 abbrev pub PacketsWith : Mode → Named → Captured → Reads → Type 0
 PacketsWith mode names r reads = IfOk r (λ read. read.1 ≡ packets_in mode names reads)
 
--- a stage that was read, when its capture began, and its packets
+-- a stage that was read, when its capture began, what its commands say, and its packets
 pub record ReadsAll (mode : Mode) (names : Named) (files : FilesDid) (got : Reading) (r : Captured) (time : ℕ)
-    (reads : Reads) : Type 0 where
+    (verbs : List ChangeVerb) (reads : Reads) : Type 0 where
   pub stage : ReadsStage mode names reads files got
-  pub began : BeganWith r time names.capture reads
+  pub began : BeganWith r time verbs names reads
   pub packets : PacketsWith mode names r reads
 
 -- what was read, without when the capture began
@@ -84,9 +87,9 @@ Refused fault name reads = IsRead (script_for reads name) (Err fault)
 -- by some reads, which are those of the files where their octets are known
 refused_some : (told : Octets) (name : Option (List ℕ)) (fault : StageFault) → ReadsScript told name (Err fault) →
     Holds told (Refused fault name)
-refused_some None None fault read = record { reads = just (Err fault) (Err NoMemory) 0; known = tt; holds = read }
+refused_some None None fault read = record { reads = just (Err fault) [] (Err NoMemory) 0; known = tt; holds = read }
 refused_some None (Some name) fault read =
-    record { reads = just (Err fault) (Err NoMemory) 0; known = tt; holds = inr refl }
+    record { reads = just (Err fault) [] (Err NoMemory) 0; known = tt; holds = inr refl }
 refused_some (Some octets) None fault read = record { reads = reads_of octets; known = refl; holds = read }
 refused_some (Some octets) (Some name) fault read = record { reads = reads_of octets; known = refl; holds = read }
 
@@ -212,66 +215,92 @@ captures_self (Err (BadLength number n)) = refl
 captures_self (Err TooManyPackets) = refl
 captures_self (Err NoMemory) = tt
 
+with_verbs : (r : Captured) (began said : Type 0) → IfOk r (λ read. began) → said → IfOk r (λ read. began × said)
+with_verbs (Ok read) began said b s = (b, s)
+with_verbs (Err fault) began said b s = tt
+
 any_time : (r : Captured) (time : ℕ) → IfOk r (λ read. time ≡ time)
 any_time (Ok read) time = refl
 any_time (Err fault) time = tt
 
--- this script is read, and this capture, which began at this time
-record Gives (names : Named) (script : Script) (r : Captured) (time : ℕ) (reads : Reads) : Type 0 where
+-- this script is read, whose commands say this, and this capture, which began at this time
+record Gives (names : Named) (script : Script) (verbs : List ChangeVerb) (r : Captured) (time : ℕ) (reads : Reads)
+    : Type 0 where
   pub first : script_for reads names.script ≡ Ok script
   pub second : Captures (reads.capture names.capture script.setting.vips) r
-  pub third : BeganWith r time names.capture reads
+  pub third : BeganWith r time verbs names reads
 
 -- by some reads, which are those of the files where their octets are known
-gives_some : (names : Named) (told : Octets) (script : Script) (r : Captured) (time : ℕ) (name : Option (List ℕ)) →
-    names.script ≡ name → ReadsScript told name (Ok script) →
+gives_some : (names : Named) (told : Octets) (script : Script) (verbs : List ChangeVerb) (r : Captured) (time : ℕ)
+    (name : Option (List ℕ)) → names.script ≡ name → ReadsScript told name (Ok script) → ReadsVerbs told name verbs →
     ReadsFile told names.capture script.setting.vips r → IfOk r (λ read. FileBegan told names.capture time) →
-    Holds told (Gives names script r time)
-gives_some names None script r time None is first second third = record {
-  reads = just (Ok script) r time;
-  known = tt;
-  holds = record {
-    first = ap (script_for (just (Ok script) r time)) is ∙ first;
-    second = captures_self r;
-    third = any_time r time;
-  };
-}
-gives_some names None script r time (Some name) is first second third = record {
-  reads = just (Ok script) r time;
-  known = tt;
-  holds = record {
-    first = ap (script_for (just (Ok script) r time)) is;
-    second = captures_self r;
-    third = any_time r time;
-  };
-}
-gives_some names (Some octets) script r time None is first second third = record {
-  reads = reads_of octets;
-  known = refl;
-  holds = record { first = ap (script_for (reads_of octets)) is ∙ first; second = second; third = third };
-}
-gives_some names (Some octets) script r time (Some name) is first second third = record {
-  reads = reads_of octets;
-  known = refl;
-  holds = record { first = ap (script_for (reads_of octets)) is ∙ first; second = second; third = third };
-}
+    Holds told (Gives names script verbs r time)
+gives_some names None script verbs r time None is first words second third =
+    let reads = just (Ok script) verbs r time in
+    record {
+      reads = reads;
+      known = tt;
+      holds = record {
+        first = ap (script_for reads) is ∙ first;
+        second = captures_self r;
+        third = with_verbs r (time ≡ time) (verbs ≡ verbs_for reads names.script) (any_time r time)
+            (words ∙ sym (ap (verbs_for reads) is));
+      };
+    }
+gives_some names None script verbs r time (Some name) is first words second third =
+    let reads = just (Ok script) verbs r time in
+    record {
+      reads = reads;
+      known = tt;
+      holds = record {
+        first = ap (script_for reads) is;
+        second = captures_self r;
+        third = with_verbs r (time ≡ time) (verbs ≡ verbs_for reads names.script) (any_time r time)
+            (sym (ap (verbs_for reads) is));
+      };
+    }
+gives_some names (Some octets) script verbs r time None is first words second third =
+    let reads = reads_of octets in
+    record {
+      reads = reads;
+      known = refl;
+      holds = record {
+        first = ap (script_for reads) is ∙ first;
+        second = second;
+        third = with_verbs r (time ≡ reads.began names.capture) (verbs ≡ verbs_for reads names.script) third
+            (words ∙ sym (ap (verbs_for reads) is));
+      };
+    }
+gives_some names (Some octets) script verbs r time (Some name) is first words second third =
+    let reads = reads_of octets in
+    record {
+      reads = reads;
+      known = refl;
+      holds = record {
+        first = ap (script_for reads) is ∙ first;
+        second = second;
+        third = with_verbs r (time ≡ reads.began names.capture) (verbs ≡ verbs_for reads names.script) third
+            (words ∙ sym (ap (verbs_for reads) is));
+      };
+    }
 
-gives_reading : (mode : Mode) (names : Named) (script : Script) (r : Captured) (time : ℕ) (reads : Reads) →
-    taken mode script ≡ Ok script → Gives names script r time reads →
+gives_reading : (mode : Mode) (names : Named) (script : Script) (verbs : List ChangeVerb) (r : Captured) (time : ℕ)
+    (reads : Reads) → taken mode script ≡ Ok script → Gives names script verbs r time reads →
     IsRead (reading mode names reads) (with_capture script r)
-gives_reading mode names script r time reads takes gives =
+gives_reading mode names script verbs r time reads takes gives =
     let wanted = reads.capture names.capture script.setting.vips in
     subst
     (λ (s : Result Script StageFault). IsRead (with_script s (reads.capture names.capture)) (with_capture script r))
     (sym (ap (if_taken mode) gives.first ∙ takes)) (stage_read script wanted r gives.second)
 
-gives_packets : (mode : Mode) (names : Named) (script : Script) (r : Captured) (time : ℕ) (reads : Reads) →
-    taken mode script ≡ Ok script → Gives names script r time reads → PacketsWith mode names r reads
-gives_packets mode names script (Ok read) time reads takes gives =
+gives_packets : (mode : Mode) (names : Named) (script : Script) (verbs : List ChangeVerb) (r : Captured) (time : ℕ)
+    (reads : Reads) → taken mode script ≡ Ok script → Gives names script verbs r time reads →
+    PacketsWith mode names r reads
+gives_packets mode names script verbs (Ok read) time reads takes gives =
     ap packets_of gives.second
     ∙ sym (ap (λ (s : Result Script StageFault). packets_with s (reads.capture names.capture))
     (ap (if_taken mode) gives.first ∙ takes))
-gives_packets mode names script (Err fault) time reads takes gives = tt
+gives_packets mode names script verbs (Err fault) time reads takes gives = tt
 
 -- want of memory, as the status of what was read
 memory_by : (script : Script) (r : Captured) → IsErrOf r NoMemory → status_by (with_capture script r) ≡ Memory
@@ -279,18 +308,18 @@ memory_by script (Ok read) h = absurd (cc)
 memory_by script (Err fault) h = let is : fault ≡ NoMemory = cc in ap capture_status is
 
 pub capture_read : (mode : Mode) (names : Named) (told : Octets) (held many kept : ℕ) (files : FilesDid)
-    (mid : Option (List Opening)) (script : Script) (r : Captured) (time : ℕ) → HasScript mode names →
-    taken mode script ≡ Ok script → ReadsScript told names.script (Ok script) →
-    ReadsFile told names.capture script.setting.vips r → IfOk r (λ read. FileBegan told names.capture time) →
+    (mid : Option (List Opening)) (script : Script) (verbs : List ChangeVerb) (r : Captured) (time : ℕ) →
+    HasScript mode names → taken mode script ≡ Ok script → ReadsScript told names.script (Ok script) →
+    ReadsVerbs told names.script verbs → ReadsFile told names.capture script.setting.vips r → IfOk r (λ read. FileBegan told names.capture time) →
     AsksAll held (first_of files mid kept) (script_names names.script) → many ≡ held → kept ≡ files.faults →
     AsksPrefix many (second_of files mid kept) (names.capture ∷ []) →
     IsErrOf r NoMemory ⊎ AsksAll many (second_of files mid kept) (names.capture ∷ []) →
     (status_by (with_capture script r) ≡ ReadFault → Rose files.faults files.later) →
     (status_by (with_capture script r) ≢ ReadFault → files.later ≡ files.faults) →
-    Holds told (ReadsAll mode names files (with_capture script r) r time)
-capture_read mode names told held many kept files mid script r time has takes first second third before as_many as_often
-    part all rose same =
-    let found = gives_some names told script r time names.script refl first second third in
+    Holds told (ReadsAll mode names files (with_capture script r) r time verbs)
+capture_read mode names told held many kept files mid script verbs r time has takes first words second third before
+    as_many as_often part all rose same =
+    let found = gives_some names told script verbs r time names.script refl first words second third in
     let asks : AsksFor (names_after names (script_by mode found.reads names.script))
     (status_by (with_capture script r)) files = record {
       held = held;
@@ -307,9 +336,9 @@ capture_read mode names told held many kept files mid script r time has takes fi
       reads = found.reads;
       known = found.known;
       holds = record {
-        stage = record { read = gives_reading mode names script r time found.reads takes found.holds; asks = asks };
+        stage = record { read = gives_reading mode names script verbs r time found.reads takes found.holds; asks = asks };
         began = found.holds.third;
-        packets = gives_packets mode names script r time found.reads takes found.holds;
+        packets = gives_packets mode names script verbs r time found.reads takes found.holds;
       };
     }
   where
@@ -351,10 +380,10 @@ read_some names told script read = by told names.script refl read where
   by : (told : Octets) (name : Option (List ℕ)) → names.script ≡ name → ReadsScript told name (Ok script) →
       Holds told (λ reads. script_for reads names.script ≡ Ok script)
   by None None is read =
-      let reads = just (Ok script) (Err NoMemory) 0
+      let reads = just (Ok script) [] (Err NoMemory) 0
       in record { reads = reads; known = tt; holds = ap (script_for reads) is ∙ read }
   by None (Some name) is read =
-      let reads = just (Ok script) (Err NoMemory) 0
+      let reads = just (Ok script) [] (Err NoMemory) 0
       in record { reads = reads; known = tt; holds = ap (script_for reads) is }
   by (Some octets) None is read =
       record { reads = reads_of octets; known = refl; holds = ap (script_for (reads_of octets)) is ∙ read }
@@ -405,10 +434,12 @@ source_failed script (Err TooManyPackets) e = absurd (cc)
 source_failed script (Err NoMemory) e = absurd (cc)
 
 pub captured_stage : (mode : Mode) (names : Named) (told then : Octets) (held many : ℕ) (files : FilesDid)
-    (mid : Option (List Opening)) (script : Script) (vips : List Vip) (r : Captured) (time faults : ℕ) →
+    (mid : Option (List Opening)) (script : Script) (verbs : List ChangeVerb) (vips : List Vip) (r : Captured)
+    (time faults : ℕ) →
     HasScript mode names → taken mode script ≡ Ok script →
     then ≡ told → vips ≡ script.setting.vips →
-    ReadsScript told names.script (Ok script) → ReadsFile then names.capture vips r →
+    ReadsScript told names.script (Ok script) → ReadsVerbs told names.script verbs →
+    ReadsFile then names.capture vips r →
     IfOk r (λ read. FileBegan then names.capture time) →
     IsErrAnd (read_ok script) IsOutside ⊎ AsksAll held (first_of files mid faults) (script_names names.script) →
     many ≡ held → AsksPrefix many (second_of files mid faults) (names.capture ∷ []) →
@@ -416,10 +447,10 @@ pub captured_stage : (mode : Mode) (names : Named) (told then : Octets) (held ma
     files.faults ≤ faults →
     IsErrAnd (read_ok script) (λ fault. fault_status fault ≡ ReadFault) ⊎ (faults ≡ files.faults) →
     HasStepCause faults files.later r →
-    Holds told (ReadsAll mode names files (with_capture script r) r time)
-captured_stage mode names told then held many files mid script vips r time faults has takes same served first second
-    third before as_many part all low kept cause =
-    capture_read mode names told held many faults files mid script r time has takes first
+    Holds told (ReadsAll mode names files (with_capture script r) r time verbs)
+captured_stage mode names told then held many files mid script verbs vips r time faults has takes same served first
+    words second third before as_many part all low kept cause =
+    capture_read mode names told held many faults files mid script verbs r time has takes first words
     (subst (λ t. ReadsFile t names.capture script.setting.vips r) same
     (subst (λ v. ReadsFile then names.capture v r) served second))
     (subst (λ t. IfOk r (λ read. FileBegan t names.capture time)) same third)
@@ -451,43 +482,43 @@ both_asked names held many often faults before mid now script read scripts kept 
     (asked_ok script (AsksAll held (first_of files mid faults) (script_names names.script)) scripts) as_many
     (kept_ok script often faults kept) all
 
--- when it began
+-- when it began, and what its commands say
 pub stage_began : (mode : Mode) (names : Named) (told : Octets) (files : FilesDid) (stage : Reading) (r : Captured)
-    (time : ℕ) → Holds told (ReadsAll mode names files stage r time) →
-    Holds told (λ reads. ReadsStage mode names reads files stage × BeganWith r time names.capture reads)
-stage_began mode names told files stage r time all =
-    holds_more told (ReadsAll mode names files stage r time)
-    (λ reads. ReadsStage mode names reads files stage × BeganWith r time names.capture reads)
+    (time : ℕ) (verbs : List ChangeVerb) → Holds told (ReadsAll mode names files stage r time verbs) →
+    Holds told (λ reads. ReadsStage mode names reads files stage × BeganWith r time verbs names reads)
+stage_began mode names told files stage r time verbs all =
+    holds_more told (ReadsAll mode names files stage r time verbs)
+    (λ reads. ReadsStage mode names reads files stage × BeganWith r time verbs names reads)
     (λ reads h. (h.stage, h.began)) all
 
 -- its packets
 pub stage_packets : (mode : Mode) (names : Named) (told : Octets) (files : FilesDid) (stage : Reading) (r : Captured)
-    (time : ℕ) → Holds told (ReadsAll mode names files stage r time) →
+    (time : ℕ) (verbs : List ChangeVerb) → Holds told (ReadsAll mode names files stage r time verbs) →
     Holds told (λ reads. ReadsStage mode names reads files stage × PacketsWith mode names r reads)
-stage_packets mode names told files stage r time all =
-    holds_more told (ReadsAll mode names files stage r time)
+stage_packets mode names told files stage r time verbs all =
+    holds_more told (ReadsAll mode names files stage r time verbs)
     (λ reads. ReadsStage mode names reads files stage × PacketsWith mode names r reads)
     (λ reads h. (h.stage, h.packets)) all
 
 -- a fault that came through `?`
 pub packets_through : (mode : Mode) (names : Named) (told : Octets) (files : FilesDid)
-    (r : Result (Stage × List (List ℕ) × ℕ) StageFault) (fault : StageFault) → IsErrAnd r (λ e. e ≡ fault) →
+    (r : Result NamedStage StageFault) (fault : StageFault) → IsErrAnd r (λ e. e ≡ fault) →
     Holds told (λ reads. ReadsStage mode names reads files (Err fault)) →
     Holds told (λ reads.
-    ReadsStage mode names reads files (result_map_both (λ read. read.0) (λ fault. fault) r)
-    × IfOk r (λ read. read.1 ≡ packets_in mode names reads))
+    ReadsStage mode names reads files (result_map_both (λ read. read.stage) (λ fault. fault) r)
+    × IfOk r (λ read. read.packets ≡ packets_in mode names reads))
 packets_through mode names told files (Ok x) fault is holds = absurd is
 packets_through mode names told files (Err e) fault is holds =
     holds_more told (λ reads. ReadsStage mode names reads files (Err fault))
     (λ reads. ReadsStage mode names reads files (Err e) × Unit {0})
     (λ reads h. (subst (λ f. ReadsStage mode names reads files (Err f)) (sym is) h, tt)) holds
 
-pub stage_through : {A : Type 0} (mode : Mode) (names : Named) (told : Octets) (files : FilesDid)
-    (r : Result (Stage × A × ℕ) StageFault) (fault : StageFault) → IsErrAnd r (λ e. e ≡ fault) →
+pub stage_through : (mode : Mode) (names : Named) (told : Octets) (files : FilesDid)
+    (r : Result NamedStage StageFault) (fault : StageFault) → IsErrAnd r (λ e. e ≡ fault) →
     Holds told (λ reads. ReadsStage mode names reads files (Err fault)) →
     Holds told (λ reads.
-    ReadsStage mode names reads files (result_map_both (λ read. read.0) (λ fault. fault) r)
-    × IfOk r (λ read. read.2 ≡ reads.began names.capture))
+    ReadsStage mode names reads files (result_map_both (λ read. read.stage) (λ fault. fault) r)
+    × IfOk r (λ read. (read.began ≡ reads.began names.capture) × (read.verbs ≡ verbs_for reads names.script)))
 stage_through mode names told files (Ok x) fault is holds = absurd is
 stage_through mode names told files (Err e) fault is holds =
     holds_more told (λ reads. ReadsStage mode names reads files (Err fault))

@@ -171,6 +171,7 @@ gives_some : (trace capture script : List ℕ) (told : Octets) (files : FilesDid
 gives_some trace capture script None files stage r read traces = record {
   reads = record {
     script = read.reads.script;
+    verbs = read.reads.verbs;
     capture = read.reads.capture;
     began = read.reads.began;
     trace = λ name. traces.0;

@@ -1,10 +1,12 @@
 -- What the words and the named files ask for: a stage to play, or the first fault.
-use Rattle.std.specs.Prelude.{◌≡◌, ℕ, nat_lt, if◌then◌else◌, List, length, Option, Some, None}
+use Rattle.std.specs.Prelude.{◌≡◌, ℕ, nat_lt, if◌then◌else◌, List, [], length, Option, Some, None}
 use Rattle.std.specs.Prelude.{Result, Ok, Err}
 use Rattle.bm_base.specs.declared.capture.Vip.{Vip}
 use Rattle.bm_table.specs.declared.script.Script.{Script}
 use Rattle.bm_script.specs.declared.fault.ScriptFault.{ScriptFault}
+use Rattle.bm_script.specs.declared.verbs.ChangeVerb.{ChangeVerb}
 use Rattle.bm_script.specs.Scripts.{script_of}
+use Rattle.bm_script.specs.Verbs.{verbs_of}
 use Rattle.bm_core.specs.declared.events.Stage.{Stage}
 use Rattle.bm_words.specs.Form.{Named}
 use Rattle.bm_world.specs.Seats.{seats_of}
@@ -24,10 +26,11 @@ use Rattle.bm_cli.specs.Plain.{plain_script}
 abbrev pub Octets : Type 0
 Octets = Option (List ℕ → List ℕ)
 
--- what is read under each name: a script, the capture for these services, when it began, and a
--- trace, unless it is too long
+-- what is read under each name: a script, what its commands say that they change, the capture for
+-- these services, when it began, and a trace, unless it is too long
 pub record Reads : Type 0 where
   pub script : List ℕ → Result Script StageFault
+  pub verbs : List ℕ → List ChangeVerb
   pub capture : List ℕ → List Vip → Captured
   pub began : List ℕ → ℕ
   pub trace : List ℕ → Option (List ℕ)
@@ -49,6 +52,7 @@ trace_in octets = if nat_lt 268435456 (length octets) then None else Some octets
 abbrev pub reads_of : (List ℕ → List ℕ) → Reads
 reads_of octets = record {
   script = λ name. script_in (octets name);
+  verbs = λ name. verbs_of (octets name);
   capture = λ name vips. capture vips (octets name);
   began = λ name. began (octets name);
   trace = λ name. trace_in (octets name);
@@ -76,6 +80,11 @@ Reading = Result Stage StageFault
 abbrev pub script_for : Reads → Option (List ℕ) → Result Script StageFault
 script_for reads None = Ok plain_script
 script_for reads (Some name) = reads.script name
+
+-- what the commands of that script say that they change
+abbrev pub verbs_for : Reads → Option (List ℕ) → List ChangeVerb
+verbs_for reads None = []
+verbs_for reads (Some name) = reads.verbs name
 
 -- the script, if a stage with it may be played in this mode: a run has at most 65,536 seats
 abbrev pub taken : Mode → Script → Result Script StageFault

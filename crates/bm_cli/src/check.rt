@@ -80,9 +80,9 @@ fn read_traced<F: Files>(
         capture,
         script: Some(script),
     };
-    let (stage, _, _) = read_stage(alloc, files, Mode::Replay, names)?;
+    let named = read_stage(alloc, files, Mode::Replay, names)?;
     let trace = read_trace(alloc, files, trace)?;
-    Ok((stage, trace))
+    Ok((named.stage, trace))
 }
 
 /// Reads the trace of this name. No other name is asked for.

@@ -7,7 +7,7 @@ ghost use Rattle.bm_pcap.specs.Limits.{latest};
 ghost use Rattle.bm_words.specs.Form.{named};
 ghost use Rattle.bm_cli.specs.Names.{AsksAll, script_names};
 ghost use Rattle.bm_cli.specs.Stages.{ReadsStage};
-ghost use Rattle.bm_cli.specs.Reading.{Holds};
+ghost use Rattle.bm_cli.specs.Reading.{Holds, verbs_for};
 ghost use Rattle.bm_cli.specs.Statuses.{did};
 ghost use Rattle.bm_cli.specs.Streams.{packets_in};
 
@@ -16,14 +16,26 @@ use crate::mode::Mode;
 use crate::reading::read_file;
 use crate::script::read_script_file;
 use crate::seats::check_seats;
-use bm_base::Octets;
+use bm_base::{List, Octets};
 use bm_core::Stage;
 use bm_io::Files;
+use bm_script::ChangeVerb;
 use bm_words::Names;
 use std::alloc::Global;
 
-/// Reads the script, and then the capture, whose packets go to the script's services. Returns with
-/// them the packet of each record, and when the capture began, in nanoseconds since 1970. Only the
+/// The stage that words name, with what is read beside it.
+#[derive(Drop)]
+pub struct NamedStage {
+    pub stage: Stage,
+    /// The packet of each record.
+    pub packets: Octets,
+    /// When the capture began, in nanoseconds since 1970.
+    pub began: u64,
+    /// What the script's commands say that they change.
+    pub verbs: List<ChangeVerb>,
+}
+
+/// Reads the script, and then the capture, whose packets go to the script's services. Only the
 /// names in the words are asked for, and the capture only after a script that has no fault and may
 /// be played in this mode.
 pub fn read_stage<F: Files>(
@@ -31,33 +43,42 @@ pub fn read_stage<F: Files>(
     files: &mut F,
     mode: Mode,
     names: Names<'_>,
-) -> Result<(Stage, Octets, u64), StageFault>
+) -> Result<NamedStage, StageFault>
     requires script { mode ≡ Mode.Run → IsSome (named names).script }
     requires room { F.open_now files.old < 4294967295 }
     ensures stage { Holds (F.octets files.old) (λ reads.
         ReadsStage mode (named names.entry) reads (did F.asked F.faults files.old files.new)
-        (result_map_both (λ read. read.0) (λ fault. fault) result)
-        × IfOk result (λ read. read.2 ≡ reads.began (named names.entry).capture)) }
+        (result_map_both (λ read. read.stage) (λ fault. fault) result)
+        × IfOk result (λ read. (read.began ≡ reads.began (named names.entry).capture)
+        × (read.verbs ≡ verbs_for reads (named names.entry).script))) }
     ensures capture { Holds (F.octets files.old) (λ reads.
         ReadsStage mode (named names.entry) reads (did F.asked F.faults files.old files.new)
-        (result_map_both (λ read. read.0) (λ fault. fault) result)
-        × IfOk result (λ read. read.1 ≡ packets_in mode (named names.entry) reads)) }
+        (result_map_both (λ read. read.stage) (λ fault. fault) result)
+        × IfOk result (λ read. read.packets ≡ packets_in mode (named names.entry) reads)) }
     ensures all { OnOk result (AsksAll (F.open_now files.old)
         (did F.asked F.faults files.old files.new)
         (script_names (named names.entry).script ++ (named names.entry).capture ∷ [])) }
-    ensures early { IfOk result (λ read. read.2 ≤ latest) }
-    ensures sound { IfOk result (λ read. IsSound read.0) }
-    ensures packets { IfOk result (λ read. ArePackets read.0.capture.records read.1) }
+    ensures early { IfOk result (λ read. read.began ≤ latest) }
+    ensures sound { IfOk result (λ read. IsSound read.stage) }
+    ensures packets { IfOk result (λ read. ArePackets read.stage.capture.records read.packets) }
     ensures octets { F.octets files.new ≡ F.octets files.old }
     ensures open { F.open_now files.new ≡ F.open_now files.old }
 {
-    let script = read_script_file(alloc, files, names.script)?;
-    check_seats(mode, &script)?;
+    let worded = read_script_file(alloc, files, names.script)?;
+    check_seats(mode, &worded.script)?;
     let (capture, packets, began) = read_file(
         alloc,
         files,
         names.capture,
-        script.setting.vips.items(),
+        worded.script.setting.vips.items(),
     )?;
-    Ok((Stage { script, capture }, packets, began))
+    Ok(NamedStage {
+        stage: Stage {
+            script: worded.script,
+            capture,
+        },
+        packets,
+        began,
+        verbs: worded.verbs,
+    })
 }

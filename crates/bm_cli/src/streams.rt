@@ -43,7 +43,7 @@ pub(crate) fn play_streams<R: Threads + Wait + Sync, F: Files, K: Sink>(
     ensures open { F.open_now files.new ≡ F.open_now files.old }
 {
     match read_stage(alloc, files, Mode::Replay, names) {
-        Ok((stage, packets, _)) => show_streams(rt, alloc, stage, packets, out),
+        Ok(named) => show_streams(rt, alloc, named.stage, named.packets, out),
         Err(fault) => refuse(alloc, &fault, out),
     }
 }

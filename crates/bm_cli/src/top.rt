@@ -147,7 +147,7 @@ fn play_files<R: Threads + Wait + Sync, F: Files, K: Sink, G: Gate>(
     ensures open { F.open_now files.new ≡ F.open_now files.old }
 {
     match read_stage(alloc, files, mode, names) {
-        Ok((stage, packets, _)) => show(rt, alloc, mode, stage, packets, out, gate),
+        Ok(named) => show(rt, alloc, mode, named.stage, named.packets, out, gate),
         Err(fault) => refuse(alloc, &fault, out),
     }
 }

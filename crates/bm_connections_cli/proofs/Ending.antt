@@ -1,11 +1,12 @@
 -- How a call ends, by what was read and what was written.
 use Rattle.std.proofs.Common.{◌≡◌, ◌≢◌, ◌⊎◌, inl, inr, ℕ, List, Option, None, Some, Result, Ok, Err, Bool, true, false}
 use Rattle.std.proofs.Common.{refl, sym, subst, ap, ap₂, ◌∙◌}
-use Rattle.std.specs.Prelude.{if◌then◌else◌, ⊤}
+use Rattle.std.specs.Prelude.{if◌then◌else◌, map, ⊤}
 use Rattle.bm_io.specs.declared.opening.Opening.{Opening}
 use Rattle.bm_core.specs.declared.events.Event.{Event}
 use Rattle.bm_core.specs.declared.events.History.{History}
 use Rattle.bm_core.specs.declared.events.Stage.{Stage}
+use Rattle.bm_script.specs.declared.verbs.ChangeVerb.{ChangeVerb}
 use Rattle.bm_table.specs.declared.script.Script.{Script}
 use Rattle.bm_lifetime.specs.declared.explained.Lifetime.{Lifetime as Lived}
 use Rattle.bm_lifetime.specs.Lifetime.{explained}
@@ -20,7 +21,7 @@ use Rattle.bm_cli.specs.Ends.{Ends, IsOf}
 use Rattle.bm_cli.specs.Lines.{FaultLines}
 use Rattle.bm_cli.specs.Stages.{ReadsNamed, ReadsStage}
 use Rattle.bm_cli.specs.Telling.{Tells}
-use Rattle.bm_cli.specs.Reading.{Holds, Octets, Reading, Reads}
+use Rattle.bm_cli.specs.Reading.{Holds, Octets, Reading, Reads, verbs_for}
 use Rattle.bm_cli.specs.Statuses.{FilesDid, SinkDid, Writes, code_of}
 use Rattle.bm_cli.proofs.Ending.{IsUnread, ends_stage, holds_more, unread_ends}
 use Rattle.bm_cli.proofs.Faults.{IsSilent, of_fault}
@@ -28,13 +29,12 @@ use Rattle.bm_cli.proofs.NamedScripts.{script_ends}
 use Rattle.bm_cli.proofs.Statuses.{same_code}
 use Rattle.bm_cli.proofs.Telling.{tells_due, untouched}
 use Rattle.bm_words.specs.Form.{Named}
-use Rattle.bm_connections.specs.Base.{base_of, compared, compared_with}
+use Rattle.bm_connections.specs.Base.{base_of, is_whole}
 use Rattle.bm_connections.specs.Connections.{connections}
-use Rattle.bm_connections.specs.declared.compared.Compared.{Compared}
 use Rattle.bm_connections_cli.specs.Dues.{clock_of, due, due_of, due_text}
 use Rattle.bm_connections_cli.specs.Help.{usage_line}
 use Rattle.bm_connections_cli.specs.Faults.{file_of, lines_for, names_file}
-use Rattle.bm_connections_cli.specs.Headline.{IsReplayOf, IsTextOf}
+use Rattle.bm_connections_cli.specs.Headline.{IsOfReplays, IsReplayOf}
 use Rattle.bm_connections_cli.specs.Lifetime.{explained_text, lifetime_answer, outlives, shown_or_warned}
 use Rattle.bm_connections_cli.specs.Inside.Replays.{AreReplays}
 use Rattle.bm_connections_cli.specs.Sinks.{HoldsOfOne}
@@ -49,36 +49,26 @@ history_is a b stages events =
     let made : Stage → List Event → History = λ s e. record { stage = s; events = e } in ap₂ made stages events
 
 -- a stage has one replay
-same_replay : (stage : Stage) (a b : History) → IsReplayOf stage a → IsReplayOf stage b → a ≡ b
+pub same_replay : (stage : Stage) (a b : History) → IsReplayOf stage a → IsReplayOf stage b → a ≡ b
 same_replay stage a b p q =
     let setting = stage.script.setting in
     let stages = p.0 ∙ sym q.0 in
     history_is a b stages (replay_law a b stages (setting_mux setting) (setting_fate setting) p.1 q.1)
 
--- what is told of two replays is told of all
-text_of : (text : History → List Compared → List ℕ) (stage : Stage) (h : History) (wholes : List Bool) →
+-- what follows from two replays follows from all
+pub of_replays : {A : Type 0} (of : History → List Bool → A) (stage : Stage) (h : History) (wholes : List Bool) →
     AreReplays stage h wholes →
-    IsTextOf (λ g b. text g (compared g b)) stage (text h (compared_with (connections h) wholes))
-text_of text stage h wholes both = record {
+    IsOfReplays (λ g b. of g (map is_whole (connections b))) stage (of h wholes)
+of_replays of stage h wholes both = record {
   history = h;
   replay = both.replay;
   base = both.base;
   base_replay = both.base_replay;
-  printed = λ other base is base_is.
-      ap (λ ws. text h (compared_with (connections h) ws)) both.whole
-      ∙ ap₂ (λ g b. text g (compared g b)) (same_replay stage h other both.replay is)
+  follows = λ other base is base_is.
+      ap (of h) both.whole
+      ∙ ap₂ (λ g b. of g (map is_whole (connections b))) (same_replay stage h other both.replay is)
       (same_replay (base_of stage) both.base base both.base_replay base_is);
 }
-
--- the text of these replays was written
-pub tells_text : (text : History → List Compared → List ℕ) (stage : Stage) (h : History) (wholes : List Bool)
-    (sink : SinkDid) (result : Status) → AreReplays stage h wholes →
-    Writes Done (text h (compared_with (connections h) wholes)) sink result →
-    Tells no_lines (Shown (IsTextOf (λ g b. text g (compared g b)) stage)) sink result
-tells_text text stage h wholes sink result both writes =
-    tells_due no_lines (Shown (IsTextOf (λ g b. text g (compared g b)) stage)) Done
-    (text h (compared_with (connections h) wholes)) sink result
-    (refl, text_of text stage h wholes both) writes
 
 -- ONE OF TWO SINKS
 
@@ -125,7 +115,7 @@ told_answer lines answer sink result by t = of t.writes.ends t.is where
   of (inr (inl e)) is = inr (inr (inl e))
   of (inr (inr e)) is = inr (inr (inr e))
 
-told_fault : (lines : FaultLines) (answer : Answer) (sink : SinkDid) (result t : Status) → WriteFault ≢ t →
+pub told_fault : (lines : FaultLines) (answer : Answer) (sink : SinkDid) (result t : Status) → WriteFault ≢ t →
     Memory ≢ t → ((says : Status) (text : List ℕ) → IsDue lines answer says text → says ≢ t) →
     Tells lines answer sink result → code_of result ≢ code_of t
 told_fault lines answer sink result t write memory by told =
@@ -164,17 +154,17 @@ shown_done : (is : List ℕ → Type 0) (says : Status) (text : List ℕ) → Is
 shown_done is says text due = inl due.0
 
 -- a fault
-fault_not : (lines : FaultLines) (fault : StageFault) (says : Status) (text : List ℕ) →
+pub fault_not : (lines : FaultLines) (fault : StageFault) (says : Status) (text : List ℕ) →
     IsDue lines (Refused fault) says text → (says ≢ Done) × (says ≢ Exceeded)
 fault_not lines fault says text due =
     (λ e. (of_fault fault).done (sym due.0 ∙ e), λ e. (of_fault fault).exceeded (sym due.0 ∙ e))
 
 -- A STAGE
 
-module _ (asked : Asked) (is : Option ℕ → Stage → List ℕ → Type 0) (clock : Bool) (names : Named) where
+module _ (asked : Asked) (is : Option ℕ → List ChangeVerb → Stage → List ℕ → Type 0) (clock : Bool) (names : Named) where
   -- what is due of the stage
   abbrev wanted : Reads → Due
-  wanted reads = due_of_stage Replay (is (clock_of clock names reads)) names reads
+  wanted reads = due_of_stage Replay (is (clock_of clock names reads) (verbs_for reads names.script)) names reads
 
   abbrev Ended : Octets → FilesDid → Status → SinkDid → Type 0
   Ended told files result sink =
@@ -183,29 +173,42 @@ module _ (asked : Asked) (is : Option ℕ → Stage → List ℕ → Type 0) (cl
   -- what was read of a stage was answered
   ends_played : (reads : Reads) (files : FilesDid) (sink : SinkDid) (r : Reading) (result : Status) →
       ReadsStage Replay names reads files r →
-      Tells (lines_for (Some asked)) (answer_for (is (clock_of clock names reads)) r) sink result →
+      Tells (lines_for (Some asked)) (answer_for (is (clock_of clock names reads) (verbs_for reads names.script)) r) sink result →
       Ends (lines_for (Some asked)) (wanted reads) files sink result
   ends_played reads files sink r result read tells =
-      ends_stage (lines_for (Some asked)) (lines_silent (Some asked)) Replay (is (clock_of clock names reads)) names
-      reads files sink r result read tells
+      ends_stage (lines_for (Some asked)) (lines_silent (Some asked)) Replay
+      (is (clock_of clock names reads) (verbs_for reads names.script)) names reads files sink r result read tells
 
-  -- the text of a stage was told, by the clock that is due
+  -- the text of a stage was told, by the clock and the verbs that are due
+  told_with : (reads : Reads) (sink : SinkDid) (result : Status) (stage : Stage) (began : ℕ) (by : Option ℕ)
+      (verbs : List ChangeVerb) → by ≡ (if clock then Some began else None) → began ≡ reads.began names.capture →
+      verbs ≡ verbs_for reads names.script → Tells no_lines (Shown (is by verbs stage)) sink result →
+      Tells (lines_for (Some asked)) (answer_for (is (clock_of clock names reads) (verbs_for reads names.script))
+      (Ok stage)) sink result
+  told_with reads sink result stage began by verbs same began_is verbs_is tells =
+      let lines = lines_for (Some asked) in
+      subst (λ (vs : List ChangeVerb). Tells lines (Shown (is (clock_of clock names reads) vs stage)) sink result)
+      verbs_is
+      (subst (λ (b : ℕ). Tells lines (Shown (is (if clock then Some b else None) verbs stage)) sink result) began_is
+      (subst (λ (k : Option ℕ). Tells lines (Shown (is k verbs stage)) sink result) same
+      (shown_told lines (is by verbs stage) sink result tells)))
+
   pub played_ends : (told : Octets) (files : FilesDid) (sink : SinkDid) (before : Option (List ℕ)) (faults : ℕ)
-      (stage : Stage) (began : ℕ) (by : Option ℕ) (result : Status) → by ≡ (if clock then Some began else None) →
-      Holds told (λ reads. ReadsStage Replay names reads files (Ok stage) × (began ≡ reads.began names.capture)) →
-      Tells no_lines (Shown (is by stage)) sink result →
+      (stage : Stage) (began : ℕ) (by : Option ℕ) (verbs : List ChangeVerb) (result : Status) →
+      by ≡ (if clock then Some began else None) →
+      Holds told (λ reads. ReadsStage Replay names reads files (Ok stage)
+      × (began ≡ reads.began names.capture) × (verbs ≡ verbs_for reads names.script)) →
+      Tells no_lines (Shown (is by verbs stage)) sink result →
       HoldsOfOne (Ended told files result) sink (untouched before faults) (code_of result)
-  played_ends told files sink before faults stage began by result same read tells =
-      to_out (Shown (is by stage)) (Ended told files result) sink before faults result (shown_done (is by stage)) tells
+  played_ends told files sink before faults stage began by verbs result same read tells =
+      to_out (Shown (is by verbs stage)) (Ended told files result) sink before faults result
+      (shown_done (is by verbs stage)) tells
       (holds_more told
-      (λ reads. ReadsStage Replay names reads files (Ok stage) × (began ≡ reads.began names.capture))
+      (λ reads. ReadsStage Replay names reads files (Ok stage)
+      × (began ≡ reads.began names.capture) × (verbs ≡ verbs_for reads names.script))
       (λ reads. Ends (lines_for (Some asked)) (wanted reads) files sink result)
-      (λ reads both. ends_played reads files sink (Ok stage) result (both.0)
-      (subst (λ b. Tells (lines_for (Some asked)) (answer_for (is (if clock then Some b else None))
-      (Ok stage)) sink result)
-      (both.1)
-      (subst (λ (k : Option ℕ). Tells (lines_for (Some asked)) (Shown (is k stage)) sink result) same
-      (shown_told (lines_for (Some asked)) (is by stage) sink result tells)))) read)
+      (λ reads h. ends_played reads files sink (Ok stage) result h.0
+      (told_with reads sink result stage began by verbs same h.1 h.2 tells)) read)
 
   -- the line of a fault was told
   pub refused_ends : (told : Octets) (files : FilesDid) (before : Option (List ℕ)) (faults : ℕ) (sink : SinkDid)

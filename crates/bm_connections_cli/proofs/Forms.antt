@@ -13,7 +13,7 @@ use Rattle.bm_cli.specs.Dues.{IsDue, answer_by}
 use Rattle.bm_cli.specs.Ends.{Ends}
 use Rattle.bm_cli.specs.Lines.{FaultLines}
 use Rattle.bm_cli.specs.Program.{IsProgram}
-use Rattle.bm_cli.specs.Reading.{Holds, Octets, Reads, reading, script_by}
+use Rattle.bm_cli.specs.Reading.{Holds, Octets, Reads, reading, script_by, verbs_for}
 use Rattle.bm_cli.specs.Statuses.{FilesDid, SinkDid, code_of}
 use Rattle.bm_cli.specs.Top.{AsksNone, ShowsAnswer}
 use Rattle.bm_cli.proofs.Ending.{nothing}
@@ -52,7 +52,7 @@ usage_form : (form : Option Asked) (reads : Reads) (text : List ℕ) →
     form ≡ None
 usage_form None reads text is = refl
 usage_form (Some (Connections names options)) reads text is =
-    absurd (stage_usage (lines_for (Some (Connections names options))) (IsShownBy options (clock_of options.clock names reads)) (reading Replay names reads) text is)
+    absurd (stage_usage (lines_for (Some (Connections names options))) (IsShownBy options (clock_of options.clock names reads) (verbs_for reads names.script)) (reading Replay names reads) text is)
 usage_form (Some (Lifetime script seconds)) reads text is =
     absurd (script_usage (lines_for (Some (Lifetime script seconds))) seconds (reads.script script) text is)
 usage_form (Some Help) reads text is = absurd (let no = is.0 in cc)
@@ -83,7 +83,7 @@ script_form : (form : Option Asked) (reads : Reads) (text : List ℕ) →
     (due form reads).names ≡ scripts_in form
 script_form None reads text is = absurd (let no = is.0 in cc)
 script_form (Some (Connections names options)) reads text is =
-    stage_names (lines_for (Some (Connections names options))) (IsShownBy options (clock_of options.clock names reads)) names reads
+    stage_names (lines_for (Some (Connections names options))) (IsShownBy options (clock_of options.clock names reads) (verbs_for reads names.script)) names reads
     (script_by Replay reads names.script) text is
 script_form (Some (Lifetime script seconds)) reads text is = refl
 script_form (Some Help) reads text is = absurd (let no = is.0 in cc)

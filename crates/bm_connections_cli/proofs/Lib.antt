@@ -1,4 +1,5 @@
 pub mod Ending
+pub mod Outcomes
 pub mod Forms
 pub mod Lists
 pub mod Rows

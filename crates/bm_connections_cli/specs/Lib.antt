@@ -6,6 +6,7 @@ pub mod Faults
 pub mod Sinks
 pub mod Stories
 pub mod Headline
+pub mod Failing
 pub mod Text
 pub mod Csv
 pub mod Json

@@ -1,7 +1,9 @@
 -- What is reported of a history's connections (docs/FORMATS.md). A clock is when record 1 was
--- captured, if moments are those of the wall clock.
+-- captured, if moments are those of the wall clock; verbs are what the script's commands say that
+-- they change.
 use Rattle.std.specs.Prelude.{ℕ, List, [], ◌∷◌, ◌++◌, Option, flat_map}
 use Rattle.bm_core.specs.declared.events.History.{History}
+use Rattle.bm_script.specs.declared.verbs.ChangeVerb.{ChangeVerb}
 use Rattle.bm_connections.specs.declared.compared.Compared.{Compared}
 use Rattle.bm_connections.specs.AfterEnd.{after_end, after_end_text}
 use Rattle.bm_connections.specs.Base.{compared}
@@ -55,9 +57,9 @@ table_parts clock h cs =
 
 -- the changes, what they allow, how long they need the old servers, and which connections after them
 -- are left open
-abbrev pub change_parts : Option ℕ → History → List (List ℕ)
-change_parts clock h =
-    changes_text clock h.stage.script.setting.racks h.stage.script.plan []
+abbrev pub change_parts : Option ℕ → List ChangeVerb → History → List (List ℕ)
+change_parts clock verbs h =
+    changes_text clock h.stage.script.setting.racks h.stage.script.plan verbs
     ∷ outlived_text (lifetime h.stage.script) (connections h)
     ∷ needed_text clock (needed_changes h)
     ∷ flat_map open_end_line (open_ends h.stage (connections h)) ∷ []
@@ -89,24 +91,25 @@ capture_advice h =
     copies_text (copies h.stage.capture) ∷ nothing_line (connections h) ∷ end_lines h.stage ∷ []
 
 -- what became of connections, servers and changes
-abbrev pub outcome_parts : Option ℕ → History → List Compared → List (List ℕ)
-outcome_parts clock h cs = table_parts clock h cs ++ change_parts clock h ++ reply_parts clock h
+abbrev pub outcome_parts : Option ℕ → List ChangeVerb → History → List Compared → List (List ℕ)
+outcome_parts clock verbs h cs =
+    table_parts clock h cs ++ change_parts clock verbs h ++ reply_parts clock h
 
 -- why, and what to do
 abbrev pub reason_parts : History → List (List ℕ)
 reason_parts h = cause_parts h ++ capture_parts h ++ advice_parts h ++ capture_advice h
 
 -- what is reported in lines, part by part, of a history and of its connections
-abbrev pub parts : Option ℕ → History → List Compared → List (List ℕ)
-parts clock h cs = outcome_parts clock h cs ++ reason_parts h
+abbrev pub parts : Option ℕ → List ChangeVerb → History → List Compared → List (List ℕ)
+parts clock verbs h cs = outcome_parts clock verbs h cs ++ reason_parts h
 
 -- what is reported in each format
-abbrev pub report : Format → Option ℕ → History → List Compared → List ℕ
-report Lines clock h cs = flat_map (λ part. part) (parts clock h cs)
-report Csv clock h cs = table_csv clock h.stage.script.setting.racks cs
-report Json clock h cs = json_lines clock h.stage.script.setting.racks cs
-report Svg clock h cs = drawing clock h (connections h)
+abbrev pub report : Format → Option ℕ → List ChangeVerb → History → List Compared → List ℕ
+report Lines clock verbs h cs = flat_map (λ part. part) (parts clock verbs h cs)
+report Csv clock verbs h cs = table_csv clock h.stage.script.setting.racks cs
+report Json clock verbs h cs = json_lines clock h.stage.script.setting.racks cs
+report Svg clock verbs h cs = drawing clock h (connections h)
 
 -- what is reported of a history, by one of its base
-abbrev pub text : Format → Option ℕ → History → History → List ℕ
-text format clock h base = report format clock h (compared h base)
+abbrev pub text : Format → Option ℕ → List ChangeVerb → History → History → List ℕ
+text format clock verbs h base = report format clock verbs h (compared h base)

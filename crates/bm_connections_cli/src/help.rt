@@ -11,7 +11,7 @@ use bm_io::Sink;
 use std::alloc::{AllocError, Global};
 
 const USAGE: &str =
-    "usage: beamer-connections CAPTURE SCRIPT [--csv | --json | --svg] [--clock] | CAPTURE SCRIPT --of CLIENT [SERVICE] [--clock] | --lifetime SCRIPT [--for SECONDS] | --help | --version\n";
+    "usage: beamer-connections CAPTURE SCRIPT [--csv | --json | --svg] [--clock] [--fail] | CAPTURE SCRIPT --of CLIENT [SERVICE] [--clock] [--fail] | --lifetime SCRIPT [--for SECONDS] | --help | --version\n";
 
 const VERSION: &str = "beamer-connections 1.0\n";
 
@@ -22,6 +22,7 @@ fn options_text() -> &'static str
 {
     "  --csv, --json, --svg  the connections as fields, as objects, or drawn
   --clock               moments in UTC
+  --fail                status 10 where the changes break or refuse a connection
   --of CLIENT           the events of the client's connections, in order
   --lifetime            how long connections may live so that no change breaks them
 docs/FORMATS.md has the lines, docs/OPERATING.md what to do about them.

@@ -5,6 +5,7 @@
 
 mod advice;
 mod changes;
+mod failing;
 mod faults;
 mod fields;
 mod findings;

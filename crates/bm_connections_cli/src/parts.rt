@@ -25,6 +25,7 @@ use bm_connections::{
 };
 use bm_core::History;
 use bm_drawing::drawing;
+use bm_script::ChangeVerb;
 use bm_trace::sweep;
 use std::alloc::Global;
 
@@ -33,23 +34,25 @@ use std::alloc::Global;
 pub(crate) fn lines_of(
     alloc: Global,
     clock: Clock,
+    verbs: &[ChangeVerb],
     h: &History,
     wholes: &[bool],
 ) -> Result<Vec<Text>, Memory>
     requires { IsRun h.now }
-    ensures { IfOk result (λ parts. parts.items ≡ spec.parts clock.0 h.now
+    ensures { IfOk result (λ parts. parts.items ≡ spec.parts clock.0 verbs.now h.now
         (compared_with (tables.connections h.now) wholes.now)) }
 {
     let causes = sweep(alloc, h)?;
     let table = connections(alloc, h, &causes)?;
     let found = find_out(alloc, h, &causes, table.items())?;
-    parts_of(alloc, clock, h, table.items(), wholes, &found)
+    parts_of(alloc, clock, verbs, h, table.items(), wholes, &found)
 }
 
 /// The parts, from the table of connections and the findings.
 fn parts_of(
     alloc: Global,
     clock: Clock,
+    verbs: &[ChangeVerb],
     h: &History,
     table: &[Connection],
     wholes: &[bool],
@@ -59,10 +62,10 @@ fn parts_of(
     requires table { table.now ≡ tables.connections h.now }
     requires found { AreFindings h.now found.now }
     ensures { IfOk result (λ parts. parts.items
-        ≡ spec.parts clock.0 h.now (compared_with table.now wholes.now)) }
+        ≡ spec.parts clock.0 verbs.now h.now (compared_with table.now wholes.now)) }
 {
     let mut parts = Vec::with_capacity(alloc, 20)?;
-    add_outcome(alloc, &mut parts, clock, h, table, wholes, found)?;
+    add_outcome(alloc, &mut parts, clock, verbs, h, table, wholes, found)?;
     add_reasons(alloc, &mut parts, h, table, found)?;
     Ok(parts)
 }
@@ -72,6 +75,7 @@ fn add_outcome(
     alloc: Global,
     parts: &mut Vec<Text>,
     clock: Clock,
+    verbs: &[ChangeVerb],
     h: &History,
     table: &[Connection],
     wholes: &[bool],
@@ -81,10 +85,10 @@ fn add_outcome(
     requires table { table.now ≡ tables.connections h.now }
     requires found { AreFindings h.now found.now }
     ensures { OnOk result (parts.new.items ≡ parts.old.items
-        ++ spec.outcome_parts clock.0 h.now (compared_with table.now wholes.now)) }
+        ++ spec.outcome_parts clock.0 verbs.now h.now (compared_with table.now wholes.now)) }
 {
     add_table(alloc, parts, clock, h, table, wholes, found)?;
-    add_changes(alloc, parts, clock, h, table, found)?;
+    add_changes(alloc, parts, clock, verbs, h, table, found)?;
     add_replies(alloc, parts, clock, h, found)?;
     Ok(())
 }
@@ -138,6 +142,7 @@ fn add_changes(
     alloc: Global,
     parts: &mut Vec<Text>,
     clock: Clock,
+    verbs: &[ChangeVerb],
     h: &History,
     table: &[Connection],
     found: &Findings,
@@ -146,11 +151,14 @@ fn add_changes(
     requires table { table.now ≡ tables.connections h.now }
     requires found { AreFindings h.now found.now }
     ensures { OnOk result
-        (parts.new.items ≡ parts.old.items ++ spec.change_parts clock.0 h.now) }
+        (parts.new.items ≡ parts.old.items ++ spec.change_parts clock.0 verbs.now h.now) }
 {
     let script = &h.stage.script;
     let racks = script.setting.racks;
-    add(parts, changes_text(alloc, clock, racks, &script.plan, &[]))?;
+    add(
+        parts,
+        changes_text(alloc, clock, racks, &script.plan, verbs),
+    )?;
     add(parts, outlived_text(alloc, script, table))?;
     add(
         parts,
@@ -269,8 +277,9 @@ fn cut_text(alloc: Global, cut: Option<u32>) -> Result<Text, Memory>
     Ok(Text::of(text))
 }
 
+/// The table of the history's connections.
 #[tactic(auto, using(bm_trace::proofs::Ranged::ranges_of))]
-fn table_of(alloc: Global, h: &History) -> Result<List<Connection>, Memory>
+pub(crate) fn table_of(alloc: Global, h: &History) -> Result<List<Connection>, Memory>
     requires { IsRun h.now }
     ensures { IfOk result (λ table. table ≡ tables.connections h.now) }
 {
@@ -286,7 +295,7 @@ pub(crate) fn fields_of(
     wholes: &[bool],
 ) -> Result<Vec<u8>, Memory>
     requires { IsRun h.now }
-    ensures { IfOk result (λ octets. octets.items ≡ spec.report Csv clock.0 h.now
+    ensures { IfOk result (λ octets. octets.items ≡ spec.report Csv clock.0 [] h.now
         (compared_with (tables.connections h.now) wholes.now)) }
 {
     let table = table_of(alloc, h)?;
@@ -307,7 +316,7 @@ pub(crate) fn values_of(
     wholes: &[bool],
 ) -> Result<Text, Memory>
     requires { IsRun h.now }
-    ensures { IfOk result (λ text. text ≡ spec.report Json clock.0 h.now
+    ensures { IfOk result (λ text. text ≡ spec.report Json clock.0 [] h.now
         (compared_with (tables.connections h.now) wholes.now)) }
 {
     let table = table_of(alloc, h)?;

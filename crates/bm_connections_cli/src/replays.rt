@@ -1,5 +1,5 @@
 //! The replay of a stage, and what becomes of its connections without its changes.
-ghost use Rattle.std.specs.Prelude.{◌≡◌, IfOk, map};
+ghost use Rattle.std.specs.Prelude.{◌≡◌, [], IfOk, map};
 ghost use Rattle.bm_core.specs.Runs.{IsRun};
 ghost use Rattle.bm_core.specs.Stages.{IsSound};
 ghost use Rattle.bm_link.specs.Fits.{ArePackets};
@@ -34,9 +34,45 @@ fn wholes_in(alloc: Global, h: &History) -> Result<Vec<bool>, Memory>
     wholes(alloc, table.items())
 }
 
+/// Replays the base of the stage and the stage, which are one where the script has no changes.
+/// `packets` has the packet of each record, and is freed as the stage is replayed.
+pub(crate) fn replay_compared<R: Threads + Wait + Sync>(
+    rt: &R,
+    alloc: Global,
+    stage: Stage,
+    packets: Octets,
+) -> Result<Replayed, Memory>
+    requires sound { IsSound stage }
+    requires packets { ArePackets stage.capture.records packets }
+    ensures { IfOk result (λ replays. AreReplays stage replays.history replays.wholes.items) }
+{
+    if stage.script.plan.versions() == 0 {
+        replay_unchanged(rt, alloc, stage, packets)
+    } else {
+        replay_both(rt, alloc, stage, packets)
+    }
+}
+
+/// Replays a stage that is its own base.
+fn replay_unchanged<R: Threads + Wait + Sync>(
+    rt: &R,
+    alloc: Global,
+    stage: Stage,
+    packets: Octets,
+) -> Result<Replayed, Memory>
+    requires sound { IsSound stage }
+    requires packets { ArePackets stage.capture.records packets }
+    requires unchanged { stage.script.plan.changes ≡ [] }
+    ensures { IfOk result (λ replays. AreReplays stage replays.history replays.wholes.items) }
+{
+    let history = replay_stage(rt, alloc, stage, packets)?;
+    let wholes = wholes_in(alloc, &history)?;
+    Ok(Replayed { history, wholes })
+}
+
 /// Replays the base of the stage, and then the stage. `packets` has the packet of each record, and
 /// is freed as the stage is replayed.
-pub(crate) fn replay_both<R: Threads + Wait + Sync>(
+fn replay_both<R: Threads + Wait + Sync>(
     rt: &R,
     alloc: Global,
     stage: Stage,

@@ -1,5 +1,5 @@
 //! Writing the connections of a history.
-ghost use Rattle.std.specs.Prelude.{flat_map};
+ghost use Rattle.std.specs.Prelude.{[], flat_map};
 ghost use Rattle.bm_core.specs.Runs.{IsRun};
 ghost use Rattle.bm_cli.specs.Statuses.{Writes, did};
 ghost use Rattle.bm_connections.specs.Base.{compared_with};
@@ -16,25 +16,28 @@ use bm_connections::Clock;
 use bm_connections_words::Format;
 use bm_core::History;
 use bm_io::{IoFault, Sink};
+use bm_script::ChangeVerb;
 use std::alloc::Global;
 
-/// Writes the connections of the history in this format, with moments by the clock. If memory is
-/// refused before all of it is put together, nothing is written.
+/// Writes the connections of the history in this format, with moments by the clock, and with what the
+/// script's commands say. If memory is refused before all of it is put together, nothing is written.
 pub(crate) fn tell<K: Sink>(
     alloc: Global,
     format: Format,
     clock: Clock,
+    verbs: &[ChangeVerb],
     history: &History,
     wholes: &[bool],
     out: &mut K,
 ) -> Status
     requires { IsRun history.now }
     ensures { Writes Status.Done
-        (report format clock.0 history.now (compared_with (connections history.now) wholes.now))
+        (report format clock.0 verbs.now history.now
+        (compared_with (connections history.now) wholes.now))
         (did K.written K.faults out.old out.new) result }
 {
     match format {
-        Format::Lines => tell_lines(alloc, clock, history, wholes, out),
+        Format::Lines => tell_lines(alloc, clock, verbs, history, wholes, out),
         Format::Csv => tell_fields(alloc, clock, history, wholes, out),
         Format::Json => tell_values(alloc, clock, history, wholes, out),
         Format::Svg => tell_drawing(alloc, clock, history, out),
@@ -44,16 +47,17 @@ pub(crate) fn tell<K: Sink>(
 fn tell_lines<K: Sink>(
     alloc: Global,
     clock: Clock,
+    verbs: &[ChangeVerb],
     history: &History,
     wholes: &[bool],
     out: &mut K,
 ) -> Status
     requires { IsRun history.now }
-    ensures { Writes Status.Done (report in_format.Lines clock.0 history.now
+    ensures { Writes Status.Done (report in_format.Lines clock.0 verbs.now history.now
         (compared_with (connections history.now) wholes.now))
         (did K.written K.faults out.old out.new) result }
 {
-    match lines_of(alloc, clock, history, wholes) {
+    match lines_of(alloc, clock, verbs, history, wholes) {
         Ok(parts) => tell_parts(parts.as_slice(), out),
         Err(Memory) => Status::Memory,
     }
@@ -79,7 +83,7 @@ fn tell_fields<K: Sink>(
     out: &mut K,
 ) -> Status
     requires { IsRun history.now }
-    ensures { Writes Status.Done (report in_format.Csv clock.0 history.now
+    ensures { Writes Status.Done (report in_format.Csv clock.0 [] history.now
         (compared_with (connections history.now) wholes.now))
         (did K.written K.faults out.old out.new) result }
 {
@@ -97,7 +101,7 @@ fn tell_values<K: Sink>(
     out: &mut K,
 ) -> Status
     requires { IsRun history.now }
-    ensures { Writes Status.Done (report in_format.Json clock.0 history.now
+    ensures { Writes Status.Done (report in_format.Json clock.0 [] history.now
         (compared_with (connections history.now) wholes.now))
         (did K.written K.faults out.old out.new) result }
 {
@@ -107,7 +111,12 @@ fn tell_values<K: Sink>(
     say(out, values.as_str().as_bytes(), Status::Done)
 }
 
-fn tell_drawing<K: Sink>(alloc: Global, clock: Clock, history: &History, out: &mut K) -> Status
+pub(crate) fn tell_drawing<K: Sink>(
+    alloc: Global,
+    clock: Clock,
+    history: &History,
+    out: &mut K,
+) -> Status
     requires { IsRun history.now }
     ensures { Writes Status.Done (drawing clock.0 history.now (connections history.now))
         (did K.written K.faults out.old out.new) result }

@@ -3,7 +3,7 @@ use Rattle.std.specs.Prelude.{ℕ, List, [], ◌∷◌, Bool, true, false, not, 
 use Rattle.std.specs.Prelude.{if◌then◌else◌, Option, Some, None, is_some, option_and_then, option_map}
 use Rattle.std.specs.Prelude.{codes}
 use Rattle.std.specs.Char.{is_ascii_digit}
-use Rattle.std.specs.List.{list_all}
+use Rattle.std.specs.List.{after_first, before_first, list_all}
 use Rattle.std.specs.Str.{bytes_eq}
 use Rattle.bm_connections_words.specs.declared.options.Chosen.{Chosen as ChosenWords}
 use Rattle.bm_connections_words.specs.declared.options.Options.{Options as OptionWords}
@@ -15,11 +15,12 @@ pub record Chosen : Type 0 where
   pub client : List ℕ
   pub service : Option (List ℕ)
 
--- the format, if one is named; whether moments are those of the wall clock; and which connections a
--- story is of
+-- the format, if one is named; whether moments are those of the wall clock; whether the exit status
+-- says that the changes break a connection; and which connections a story is of
 pub record Options : Type 0 where
   pub format : Option Format
   pub clock : Bool
+  pub fail : Bool
   pub chosen : Option Chosen
 
 -- the format of a report: lines, if none is named
@@ -29,7 +30,7 @@ format_in (Some format) = format
 
 -- what no options say
 abbrev pub none_said : Options
-none_said = record { format = None; clock = false; chosen = None }
+none_said = record { format = None; clock = false; fail = false; chosen = None }
 
 -- ONE OPTION MORE
 
@@ -39,6 +40,7 @@ with_format format o =
     else Some (record {
       format = Some format;
       clock = o.clock;
+      fail = o.fail;
       chosen = o.chosen;
     })
 
@@ -48,20 +50,43 @@ with_clock o =
     else Some (record {
       format = o.format;
       clock = true;
+      fail = o.fail;
       chosen = o.chosen;
     })
 
--- an octet of an address with a port: a digit, a dot or a colon
-abbrev pub is_of_endpoint : ℕ → Bool
-is_of_endpoint octet = is_ascii_digit octet || octet == 46 || octet == 58
+abbrev pub with_fail : Options → Option Options
+with_fail o =
+    if o.fail then None
+    else Some (record {
+      format = o.format;
+      clock = o.clock;
+      fail = true;
+      chosen = o.chosen;
+    })
 
+-- an octet of an address: a digit or a dot
+abbrev pub is_of_address : ℕ → Bool
+is_of_address octet = is_ascii_digit octet || octet == 46
+
+abbrev pub is_address : List ℕ → Bool
+is_address [] = false
+is_address (x ∷ xs) = list_all is_of_address (x ∷ xs)
+
+abbrev pub is_port : List ℕ → Bool
+is_port [] = false
+is_port (x ∷ xs) = list_all is_ascii_digit (x ∷ xs)
+
+-- an address with a port: digits and dots, a colon, and digits
 abbrev pub is_endpoint : List ℕ → Bool
-is_endpoint word = list_all is_of_endpoint word
+is_endpoint word =
+    is_address (before_first (λ octet. octet == 58) word)
+    && is_port (after_first (λ octet. octet == 58) word)
 
 abbrev pub with_chosen : Options → List ℕ → Option (List ℕ) → Options
 with_chosen o client service = record {
   format = o.format;
   clock = o.clock;
+  fail = o.fail;
   chosen = Some (record { client = client; service = service });
 }
 
@@ -90,6 +115,7 @@ with_flag word o =
     else if bytes_eq word (codes "--json") then with_format Json o
     else if bytes_eq word (codes "--svg") then with_format Svg o
     else if bytes_eq word (codes "--clock") then with_clock o
+    else if bytes_eq word (codes "--fail") then with_fail o
     else with_service word o
 
 -- the options that are read, and whether the next word is the client of `--of`
@@ -139,4 +165,9 @@ abbrev pub chosen : ChosenWords → Chosen
 chosen c = record { client = c.client.now; service = option_map (λ s. s.now) c.service }
 
 abbrev pub said : OptionWords → Options
-said o = record { format = o.format; clock = o.clock; chosen = option_map chosen o.chosen }
+said o = record {
+  format = o.format;
+  clock = o.clock;
+  fail = o.fail;
+  chosen = option_map chosen o.chosen;
+}

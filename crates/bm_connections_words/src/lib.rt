@@ -1,6 +1,7 @@
 //! The words of the command line of `beamer-connections`, and what they ask for.
 #![tactic(auto)]
 
+mod endpoint;
 mod options;
 mod words;
 

@@ -1,10 +1,11 @@
 //! The options, which come after the names of a capture and a script.
 ghost use Rattle.std.specs.Prelude.{◌≡◌, false, map, option_map, string_bytes};
-ghost use Rattle.std.specs.List.{list_all};
 ghost use Rattle.bm_words.specs.Form as forms;
 ghost use Rattle.bm_connections_words.specs.Inside.Words.{so_far};
 ghost use Rattle.bm_connections_words.specs.Options.{said};
 ghost use Rattle.bm_connections_words.specs.Options as spec;
+
+use crate::endpoint::is_endpoint;
 
 /// The format in which the connections are reported.
 #[derive(Clone, Copy, PartialEq, Eq)]
@@ -33,6 +34,8 @@ pub struct Options<'a> {
     pub format: Option<Format>,
     /// `--clock`: moments are those of the wall clock.
     pub clock: bool,
+    /// `--fail`: the exit status says whether the changes break a connection.
+    pub fail: bool,
     /// `--of CLIENT [SERVICE]`: the story of these connections.
     pub chosen: Option<Chosen<'a>>,
 }
@@ -42,6 +45,7 @@ const NOTHING: Reading<'static> = Reading {
     options: Options {
         format: None,
         clock: false,
+        fail: false,
         chosen: None,
     },
     awaits_client: false,
@@ -79,6 +83,16 @@ impl<'a> Options<'a> {
             clock: true,
             ..self
         })
+    }
+
+    /// The same with a status for what the changes break, if that isn't said yet.
+    fn with_fail(self) -> Option<Options<'a>>
+        ensures { option_map said result ≡ spec.with_fail (said self.entry) }
+    {
+        if self.fail {
+            return None;
+        }
+        Some(Options { fail: true, ..self })
     }
 
     /// The same of this client, if none is said yet.
@@ -127,6 +141,7 @@ impl<'a> Options<'a> {
             "--json" => self.with_format(Format::Json),
             "--svg" => self.with_format(Format::Svg),
             "--clock" => self.with_clock(),
+            "--fail" => self.with_fail(),
             word => self.with_service(word),
         }
     }
@@ -223,17 +238,4 @@ pub(crate) fn is_name(word: &str) -> bool
         [] => false,
         [first, ..] => *first != b'-',
     }
-}
-
-/// Whether the word has only digits, dots and colons, as an address with a port.
-fn is_endpoint(word: &str) -> bool
-    ensures { result ≡ spec.is_endpoint word.now }
-{
-    word.as_bytes().iter().all(|octet| is_of_endpoint(*octet))
-}
-
-fn is_of_endpoint(octet: u8) -> bool
-    ensures { result ≡ spec.is_of_endpoint octet }
-{
-    octet.is_ascii_digit() || octet == b'.' || octet == b':'
 }

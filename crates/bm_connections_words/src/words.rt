@@ -1,11 +1,10 @@
 //! What the words ask for.
 ghost use Rattle.std.specs.Prelude.{◌≡◌, ◌∷◌, [], map, option_map, string_bytes};
-ghost use Rattle.std.specs.Char.{is_ascii_digit};
-ghost use Rattle.std.specs.List.{list_all};
 ghost use Rattle.bm_words.specs.Form as forms;
 ghost use Rattle.bm_connections_words.specs.Words.{asked};
 ghost use Rattle.bm_connections_words.specs.Words as spec;
 
+use crate::endpoint::are_digits;
 use crate::options::{Options, is_name, read_options};
 use bm_words::Names;
 
@@ -128,10 +127,4 @@ fn is_numeral(octets: &[u8]) -> bool
         [] => false,
         [first, ..] => *first != b'0' && are_digits(octets),
     }
-}
-
-fn are_digits(octets: &[u8]) -> bool
-    ensures { result ≡ list_all is_ascii_digit octets.now }
-{
-    octets.iter().all(|octet| octet.is_ascii_digit())
 }

@@ -8,7 +8,7 @@ use std::sync::Wait;
 use std::thread::Threads;
 
 const CONNECTIONS_USAGE: &str =
-    "usage: beamer-connections CAPTURE SCRIPT [--csv | --json | --svg] [--clock] | CAPTURE SCRIPT --of CLIENT [SERVICE] [--clock] | --lifetime SCRIPT [--for SECONDS] | --help | --version\n";
+    "usage: beamer-connections CAPTURE SCRIPT [--csv | --json | --svg] [--clock] [--fail] | CAPTURE SCRIPT --of CLIENT [SERVICE] [--clock] [--fail] | --lifetime SCRIPT [--for SECONDS] | --help | --version\n";
 
 static NO_FORMS: [&[&str]; 11] = [
     &[],
@@ -37,7 +37,7 @@ fn check_words(rt: &(impl Abort + Threads + Wait + Sync), alloc: Global, call: C
 }
 
 /// Calls of `beamer-connections`, the script that is there, the status, and the line.
-static FAULTS: [(&[&str], &str, u8, &str); 6] = [
+static FAULTS: [(&[&str], &str, u8, &str); 8] = [
     (
         &["c", "s"],
         "muxes = 0\n",
@@ -63,12 +63,14 @@ static FAULTS: [(&[&str], &str, u8, &str); 6] = [
         "beamer-connections: c: not a capture\n",
     ),
     (
-        &["d", "s", "--json"],
+        &["d", "s", "--json", "--fail"],
         "",
         2,
         "beamer-connections: d: read fault: no such file\n",
     ),
     (&["c"], "", 1, CONNECTIONS_USAGE),
+    (&["c", "s", "--of", "1.2.3.4"], "", 1, CONNECTIONS_USAGE),
+    (&["c", "s", "--fail", "--fail"], "", 1, CONNECTIONS_USAGE),
 ];
 
 #[test]

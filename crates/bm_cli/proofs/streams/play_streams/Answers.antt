@@ -7,7 +7,7 @@ use Rattle.bm_cli.proofs.streams.play_streams.Goals as goal
 
 pub returns-in-Ok-clause-ends : goal.returns-in-Ok-clause-ends
 returns-in-Ok-clause-ends g c =
-    streams_end (named c.args.names) _ _ _ c.in-Ok.stage c.in-Ok.packets c.show_streams.result c.in-Ok.ensures.capture
+    streams_end (named c.args.names) _ _ _ c.in-Ok.named.stage c.in-Ok.named.packets c.show_streams.result c.in-Ok.ensures.capture
     c.show_streams.ensures
 
 pub returns-in-Err-clause-ends : goal.returns-in-Err-clause-ends

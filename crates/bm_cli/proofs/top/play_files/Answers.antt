@@ -6,8 +6,8 @@ use Rattle.bm_cli.proofs.top.play_files.Goals as goal
 
 pub returns-in-Ok-clause-ends : goal.returns-in-Ok-clause-ends
 returns-in-Ok-clause-ends g c =
-    play_ends c.args.mode (named c.args.names) _ _ _ (Ok c.in-Ok.stage) c.show.result
-    (stage_alone c.args.mode (named c.args.names) _ _ (Ok c.in-Ok.stage)
+    play_ends c.args.mode (named c.args.names) _ _ _ (Ok c.in-Ok.named.stage) c.show.result
+    (stage_alone c.args.mode (named c.args.names) _ _ (Ok c.in-Ok.named.stage)
     _ c.in-Ok.ensures.stage)
     c.show.ensures
 

@@ -10,7 +10,7 @@ returns c =
     let h = c.args.h.now in
     let before = c.args.parts.now.items in
     let first = table_parts clock h (compared_with c.args.table.now c.args.wholes.now) in
-    let second = change_parts clock h in
+    let second = change_parts clock c.args.verbs.now h in
     then_more before (first ++ second) (reply_parts clock h) _ _
     (then_more before first second _ _ c.in_ok-add_table.ensures c.in_ok-add_changes.ensures)
     c.in_ok-add_replies.ensures

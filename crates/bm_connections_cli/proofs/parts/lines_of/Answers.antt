@@ -9,5 +9,5 @@ pub returns : goal.returns
 returns c =
     subst
     (λ (t : List Connection). IfOk c.parts_of.result
-    (λ list. list.items ≡ parts c.args.clock.0 c.args.h.now (compared_with t c.args.wholes.now)))
+    (λ list. list.items ≡ parts c.args.clock.0 c.args.verbs.now c.args.h.now (compared_with t c.args.wholes.now)))
     (c.items-2.ensures ∙ c.in_ok-table.ensures) c.parts_of.ensures
