@@ -27,7 +27,7 @@ class Schedules:
     """How a script was played by threads so many times: how many packets ended otherwise than in the replay in one of these at least."""
 
     def __init__(self, engine, script, number, end_ns):
-        self.number, self.others = number, 0
+        self.number, self.others, self.is_alone = number, 0, script.fleet.get("muxes", 1) == 1
         script, program = synced(script, end_ns), os.environ.get("BEAMER", os.path.join(TOP, "beamer"))
         path = engine.written(script)
         for part in engine.paths:
@@ -40,6 +40,8 @@ class Schedules:
             yield f"{times}: {self.others:,} {end} otherwise than in the replay at least once"
         else:
             yield f"{times}: each packet ends as in the replay"
+        if self.is_alone:
+            yield "  the fleet has one mux, so one thread steers all packets: `muxes = N` in the fleet says how many it has"
 
 
 def others(engine, script, words, number):

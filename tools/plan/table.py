@@ -48,7 +48,7 @@ def table_lines(paths, traffic, rows):
     yield from of_traffic(paths, traffic)
     yield ""
     yield from aligned([HEADS, *map(cells, rows)])
-    told = [*map(needs, rows), *map(ends, rows)]
+    told = [*map(needs, rows), *map(ends, rows), fewest(rows)]
     if any(told):
         yield ""
         yield from filter(None, told)
@@ -70,6 +70,17 @@ def short(command):
 def ends(row):
     """That changes come after the captures' end."""
     return f"{row.name}: {of_late(row.after_end, len(row.changes))}" if row.after_end else None
+
+
+def fewest(rows):
+    """The rows that break the fewest connections, where rows differ in that. Of a row with changes after the captures' end that isn't
+    known."""
+    known = {row.name: row.broken + row.refused for row in rows if not row.after_end}
+    least = [name for name, count in known.items() if count == min(known.values())]
+    if len(least) == len(known):
+        return None
+    more = f" and {len(least) - LISTED:,} more" if len(least) > LISTED else ""
+    return f"fewest broken or refused: {min(known.values()):,}, by {', '.join(least[:LISTED])}{more}"
 
 
 def row_json(row):

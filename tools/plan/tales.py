@@ -124,8 +124,8 @@ def told_steps(tale, zero):
 
 
 def until(step, zero):
-    words = "; ".join(step.words)
-    return f"{words}, until {clock_text(zero + step.last, 3)}" if step.count > 1 else words
+    words, first, last = "; ".join(step.words), clock_text(zero + step.time, 3), clock_text(zero + step.last, 3)
+    return f"{words}, until {last}" if last != first else words
 
 
 def outcome(tale, zero):
