@@ -1,5 +1,5 @@
 //! The top call.
-ghost use Rattle.std.specs.Prelude.{◌≡◌, ◌<◌, ◌≤◌, if◌then◌else◌, None, Some};
+ghost use Rattle.std.specs.Prelude.{◌≡◌, ◌<◌, ◌≤◌, if◌then◌else◌, IfOk, None, Some};
 ghost use Rattle.bm_core.specs.Runs.{IsRun};
 ghost use Rattle.bm_core.specs.Stages.{IsSound};
 ghost use Rattle.bm_link.specs.Fits.{ArePackets};
@@ -206,7 +206,7 @@ fn show<R: Threads + Wait + Sync, K: Sink>(
     requires packets { ArePackets stage.capture.records packets }
     ensures tells { Tells no_lines (Shown (IsShownBy (said options.entry) clock.0 verbs.now stage))
         (did K.written K.faults out.old out.new) result.status }
-    ensures fails { Decides options.fail stage result }
+    ensures fails { Decides (said options.entry).fail stage result }
 {
     match (options.chosen, options.format(), options.fail) {
         (None, Format::Svg, false) => {
@@ -252,7 +252,7 @@ fn show_compared<R: Threads + Wait + Sync, K: Sink>(
     requires packets { ArePackets stage.capture.records packets }
     ensures tells { Tells no_lines (Shown (IsShownBy (said options.entry) clock.0 verbs.now stage))
         (did K.written K.faults out.old out.new) result.status }
-    ensures fails { Decides options.fail stage result }
+    ensures fails { Decides (said options.entry).fail stage result }
 {
     match replay_failing(rt, alloc, options.fail, stage, packets) {
         Ok((both, fails)) => {

@@ -23,7 +23,7 @@ returns-in-Ok-clause-tells g c =
     c.as_slice.ensures.value c.tell_by-status.ensures)
 
 pub returns-in-Ok-clause-fails : goal.returns-in-Ok-clause-fails
-returns-in-Ok-clause-fails g c = decides c.args.options.fail c.args.stage _ c.in-Ok.ensures.fails
+returns-in-Ok-clause-fails g c = decides (said c.args.options).fail c.args.stage _ c.in-Ok.ensures.fails
 
 pub returns-in-Err-clause-tells : goal.returns-in-Err-clause-tells
 returns-in-Err-clause-tells g c =
@@ -32,4 +32,4 @@ returns-in-Err-clause-tells g c =
 
 pub returns-in-Err-clause-fails : goal.returns-in-Err-clause-fails
 returns-in-Err-clause-fails g c =
-    decides_nothing c.args.options.fail c.args.stage c.of.result c.of.ensures.status c.of.ensures.fails
+    decides_nothing (said c.args.options).fail c.args.stage c.of.result c.of.ensures.status c.of.ensures.fails
