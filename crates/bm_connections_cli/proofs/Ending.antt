@@ -197,7 +197,7 @@ module _ (asked : Asked) (is : Option ℕ → List ChangeVerb → Stage → List
       (stage : Stage) (began : ℕ) (by : Option ℕ) (verbs : List ChangeVerb) (result : Status) →
       by ≡ (if clock then Some began else None) →
       Holds told (λ reads. ReadsStage Replay names reads files (Ok stage)
-      × (began ≡ reads.began names.capture) × (verbs ≡ verbs_for reads names.script)) →
+      × ((began ≡ reads.began names.capture) × (verbs ≡ verbs_for reads names.script))) →
       Tells no_lines (Shown (is by verbs stage)) sink result →
       HoldsOfOne (Ended told files result) sink (untouched before faults) (code_of result)
   played_ends told files sink before faults stage began by verbs result same read tells =
@@ -205,10 +205,10 @@ module _ (asked : Asked) (is : Option ℕ → List ChangeVerb → Stage → List
       (shown_done (is by verbs stage)) tells
       (holds_more told
       (λ reads. ReadsStage Replay names reads files (Ok stage)
-      × (began ≡ reads.began names.capture) × (verbs ≡ verbs_for reads names.script))
+      × ((began ≡ reads.began names.capture) × (verbs ≡ verbs_for reads names.script)))
       (λ reads. Ends (lines_for (Some asked)) (wanted reads) files sink result)
       (λ reads h. ends_played reads files sink (Ok stage) result h.0
-      (told_with reads sink result stage began by verbs same h.1 h.2 tells)) read)
+      (told_with reads sink result stage began by verbs same h.1.0 h.1.1 tells)) read)
 
   -- the line of a fault was told
   pub refused_ends : (told : Octets) (files : FilesDid) (before : Option (List ℕ)) (faults : ℕ) (sink : SinkDid)

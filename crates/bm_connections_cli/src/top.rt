@@ -33,7 +33,7 @@ use crate::replays::{Replayed, replay_compared};
 use crate::stories::tell_stories;
 use crate::tell::{tell, tell_drawing};
 use bm_base::{Memory, Octets};
-use bm_cli::{Mode, Status, read_named_script, read_stage, replay_stage};
+use bm_cli::{Mode, NamedStage, Status, read_named_script, read_stage, replay_stage};
 use bm_connections::Clock;
 use bm_connections_words::{Form, Format, Options, read_words};
 use bm_core::{History, Stage};
@@ -172,16 +172,7 @@ fn report<R: Threads + Wait + Sync, F: Files, K: Sink, E: Sink, Q: Reasons>(
     match read_stage(alloc, files, Mode::Replay, names) {
         Ok(named) => {
             let clock = clock_of(options.clock, named.began);
-            show(
-                rt,
-                alloc,
-                options,
-                clock,
-                named.verbs.items(),
-                named.stage,
-                named.packets,
-                out,
-            )
+            show(rt, alloc, options, clock, named, out)
         }
         Err(fault) => {
             let name = file_with(capture, script, &fault);
@@ -190,29 +181,28 @@ fn report<R: Threads + Wait + Sync, F: Files, K: Sink, E: Sink, Q: Reasons>(
     }
 }
 
-/// Replays the stage and its base, and writes what the options say of the connections. `packets` has
-/// the packet of each record. A drawing shows nothing of the base.
+/// Replays the stage and its base, and writes what the options say of the connections. A drawing
+/// shows nothing of the base.
 fn show<R: Threads + Wait + Sync, K: Sink>(
     rt: &R,
     alloc: Global,
     options: Options<'_>,
     clock: Clock,
-    verbs: &[ChangeVerb],
-    stage: Stage,
-    packets: Octets,
+    named: NamedStage,
     out: &mut K,
 ) -> Outcome
-    requires sound { IsSound stage }
-    requires packets { ArePackets stage.capture.records packets }
-    ensures tells { Tells no_lines (Shown (IsShownBy (said options.entry) clock.0 verbs.now stage))
+    requires sound { IsSound named.stage }
+    requires packets { ArePackets named.stage.capture.records named.packets }
+    ensures tells { Tells no_lines
+        (Shown (IsShownBy (said options.entry) clock.0 named.verbs named.stage))
         (did K.written K.faults out.old out.new) result.status }
-    ensures fails { Decides (said options.entry).fail stage result }
+    ensures fails { Decides (said options.entry).fail named.stage result }
 {
     match (options.chosen, options.format(), options.fail) {
         (None, Format::Svg, false) => {
-            Outcome::of(show_drawing(rt, alloc, clock, stage, packets, out))
+            Outcome::of(show_drawing(rt, alloc, clock, named.stage, named.packets, out))
         }
-        _ => show_compared(rt, alloc, options, clock, verbs, stage, packets, out),
+        _ => show_compared(rt, alloc, options, clock, named, out),
     }
 }
 
@@ -236,31 +226,30 @@ fn show_drawing<R: Threads + Wait + Sync, K: Sink>(
     }
 }
 
-/// Replays the stage and its base, and writes what the options say of the connections. `packets` has
-/// the packet of each record.
+/// Replays the stage and its base, and writes what the options say of the connections.
 fn show_compared<R: Threads + Wait + Sync, K: Sink>(
     rt: &R,
     alloc: Global,
     options: Options<'_>,
     clock: Clock,
-    verbs: &[ChangeVerb],
-    stage: Stage,
-    packets: Octets,
+    named: NamedStage,
     out: &mut K,
 ) -> Outcome
-    requires sound { IsSound stage }
-    requires packets { ArePackets stage.capture.records packets }
-    ensures tells { Tells no_lines (Shown (IsShownBy (said options.entry) clock.0 verbs.now stage))
+    requires sound { IsSound named.stage }
+    requires packets { ArePackets named.stage.capture.records named.packets }
+    ensures tells { Tells no_lines
+        (Shown (IsShownBy (said options.entry) clock.0 named.verbs named.stage))
         (did K.written K.faults out.old out.new) result.status }
-    ensures fails { Decides (said options.entry).fail stage result }
+    ensures fails { Decides (said options.entry).fail named.stage result }
 {
-    match replay_failing(rt, alloc, options.fail, stage, packets) {
+    let verbs = named.verbs;
+    match replay_failing(rt, alloc, options.fail, named.stage, named.packets) {
         Ok((both, fails)) => {
             let status = tell_by(
                 alloc,
                 options,
                 clock,
-                verbs,
+                verbs.items(),
                 &both.history,
                 both.wholes.as_slice(),
                 out,

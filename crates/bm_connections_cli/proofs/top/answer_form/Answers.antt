@@ -30,7 +30,7 @@ returns-in-Connections-clause-fails g c =
 pub returns-in-Lifetime-clause-fails : goal.returns-in-Lifetime-clause-fails
 returns-in-Lifetime-clause-fails g c =
     words_decide _ _ _ _ (sym (ap (λ (f : Form). Some (asked f)) c.in-Lifetime.is))
-    (lifetime_decides _ _ _ c.of-in-Lifetime.result c.of-in-Lifetime.ensures.fails)
+    (lifetime_decides c.in-Lifetime.script.now c.in-Lifetime.seconds _ c.of.result c.of.ensures.fails)
 
 pub returns-in-Help-clause-fails : goal.returns-in-Help-clause-fails
 returns-in-Help-clause-fails g c =

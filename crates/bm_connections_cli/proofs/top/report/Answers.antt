@@ -1,10 +1,4 @@
-use Rattle.std.proofs.Common.{List, subst}
-use Rattle.bm_cli.specs.Dues.{Shown}
-use Rattle.bm_cli.specs.Statuses.{did}
-use Rattle.bm_cli.specs.Telling.{Tells}
-use Rattle.bm_script.specs.declared.verbs.ChangeVerb.{ChangeVerb}
 use Rattle.bm_words.specs.Form.{named}
-use Rattle.bm_connections_cli.specs.Inside.Ends.{no_lines}
 use Rattle.bm_connections_cli.specs.Dues.{IsShownBy}
 use Rattle.bm_connections_words.specs.Options.{said}
 use Rattle.bm_connections_words.specs.Words.{Connections}
@@ -15,13 +9,9 @@ use Rattle.bm_connections_cli.proofs.top.report.Goals as goal
 pub returns-in-Ok-clause-ends : goal.returns-in-Ok-clause-ends
 returns-in-Ok-clause-ends g c =
     let options = said c.args.options in
-    let tells = subst (λ (vs : List ChangeVerb). Tells no_lines
-    (Shown (IsShownBy options c.clock_of-clock.result.0 vs c.in-Ok.named.stage))
-    (did g.K.Sink.written g.K.Sink.faults c.args.out.now c.show.new.out) c.show.result.status)
-    c.items.ensures c.show.ensures.tells in
     played_ends (Connections (named c.args.names) options) (IsShownBy options) c.args.options.clock
     (named c.args.names) _ _ _ _ _ c.in-Ok.named.stage c.in-Ok.named.began c.clock_of-clock.result.0 c.in-Ok.named.verbs
-    c.show.result.status c.clock_of-clock.ensures c.in-Ok.ensures.stage tells
+    c.show.result.status c.clock_of-clock.ensures c.in-Ok.ensures.stage c.show.ensures.tells
 
 pub returns-in-Ok-clause-fails : goal.returns-in-Ok-clause-fails
 returns-in-Ok-clause-fails g c =
